@@ -1,0 +1,22 @@
+-- Tests: what `&&` and `||` say of their parts, so that a computed test becomes facts.
+-- Assumes nothing.
+use mathlib.Core.Bool.{Bool, true, false, not, _&&_, _||_}
+use mathlib.Core.Logic.{_⊎_, inl, inr}
+use lib.Dec.{T}
+
+pub both : (a b : Bool) → T a → T b → T (a && b)
+both true b s t = t
+both false b s t = s
+
+pub both-parts : (a b : Bool) → T (a && b) → T a × T b
+both-parts true b t = (tt, t)
+both-parts false b t = absurd t
+
+pub either : (a b : Bool) → T (a || b) → T a ⊎ T b
+either true b t = inl tt
+either false b t = inr t
+
+-- a test holds or its negation does
+pub decided : (b : Bool) → T b ⊎ T (not b)
+decided true = inl tt
+decided false = inr tt
