@@ -1,0 +1,7 @@
+pub mod Xor
+pub mod Field
+pub mod ProductLaws
+pub mod Generator
+pub mod Tree
+pub mod Tables
+pub mod FieldLaws
