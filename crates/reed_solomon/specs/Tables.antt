@@ -211,3 +211,7 @@ tables s =
       log-lt = λ a h k. log-of (bits s) (poly s) (logsFromOne (bits s) (poly s)) (tested s) a h k .0;
       power-log = λ a h k. log-of (bits s) (poly s) (logsFromOne (bits s) (poly s)) (tested s) a h k .1;
     }
+
+-- what is a copy of the tables serves as them
+pub tables-of : (s : WordSize) {exp log : List ℕ} → exp ≡ powers s → log ≡ logs s → Tables s exp log
+tables-of s {exp} {log} e l = subst (λ (x : List ℕ). Tables s x log) (sym e) (subst (Tables s (powers s)) (sym l) (tables s))
