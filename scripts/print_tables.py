@@ -1,10 +1,10 @@
 #!/usr/bin/env python3
 """Prints the tables of powers and logarithms of the five fields as Rattle constants.
 
-    python3 scripts/print_tables.py > crates/reed_solomon/src/tables.rt
+    python3 scripts/print_tables.py > crates/finite_field/src/tables.rt
 
 The gate compares its output with that file; what the entries must be is proved
-in crates/reed_solomon/specs/Tables.antt, not here.
+in crates/finite_field/specs/Tables.antt, not here.
 """
 
 # Document 01, "Words and checks": the polynomial of each word size, less its leading term.
@@ -15,8 +15,8 @@ HEADER = """\
 // exponent of the word a (0 has none, and its entry is 0). A function that names a constant array copies it: so each has one function,
 // which the public entries call once and lend from. Printed by scripts/print_tables.py, 16 entries a row, and not laid out by rt fmt.
 ghost use mathlib.Core.Path.{_≡_};
-ghost use Rattle.reed_solomon.specs.Field.{w4, w6, w8, w10, w12};
-ghost use Rattle.reed_solomon.specs.Tables.{powers, logs};
+ghost use Rattle.finite_field.specs.Field.{w4, w6, w8, w10, w12};
+ghost use Rattle.finite_field.specs.Tables.{powers, logs};
 """
 
 

@@ -1,12 +1,12 @@
 // Multiplies every pair of words of each field and prints a checksum for each word size, to be held to what polynomial products
 // modulo the standard's polynomials give (`stdout`, from scripts/field_checksums.py), and to time a product.
 ghost use Prim.Native.Nat.{_<_, _^_};
-ghost use Rattle.reed_solomon.specs.Field.{sizeOf, bits, Word};
-ghost use Rattle.reed_solomon.specs.Tables.{Tables};
+ghost use Rattle.finite_field.specs.Field.{sizeOf, bits, Word};
+ghost use Rattle.finite_field.specs.Tables.{Tables};
 
 use libc::STDOUT_FILENO;
-use reed_solomon::field;
-use reed_solomon::tables;
+use finite_field::field;
+use finite_field::tables;
 
 // The checksum `sum`, carried on over the products of a with each word.
 fn row(size: u32, powers: &[u16], logs: &[u16], a: u16, sum: u64) -> u64

@@ -1,7 +1,7 @@
 -- The numbers below n: how many pass a test, and whether all do.
 -- Assumes nothing.
 use mathlib.Core.Path.{_≡_, refl, sym, ap, _∙_}
-use mathlib.Core.Bool.{Bool, true, false, _&&_}
+use mathlib.Core.Bool.{Bool, true, false, not, _&&_}
 use mathlib.Core.Logic.{_⊎_, inl, inr}
 use Prim.Native.Nat.{ℕ, zero, suc, _+_, _≤_, _<_, suc-le-suc}
 use native.Mathlib.Nat.{zero-lt-suc, le-of-suc-le-suc, not-suc-le-zero, le-refl, eq-or-lt-of-le}
@@ -22,6 +22,14 @@ abbrev pub one : Bool → ℕ
 one true = 1
 one false = 0
 
+pub one-yes : (b : Bool) → T b → one b ≡ 1
+one-yes true t = refl
+one-yes false t = absurd t
+
+pub one-no : (b : Bool) → T (not b) → one b ≡ 0
+one-no true t = absurd t
+one-no false t = refl
+
 -- how many of the numbers below n pass the test
 unfoldable pub count : ℕ → (ℕ → Bool) → ℕ
 count zero p = 0
@@ -35,7 +43,7 @@ pub count-first : (n : ℕ) (p : ℕ → Bool) → count (suc n) p ≡ one (p ze
 unfolding count
 count-first n p = refl
 
-count-suc : (n : ℕ) (p : ℕ → Bool) → count (suc n) p ≡ count n p + one (p n)
+pub count-suc : (n : ℕ) (p : ℕ → Bool) → count (suc n) p ≡ count n p + one (p n)
 unfolding count
 count-suc zero p = omega arith
 count-suc (suc n) p = omega (arith, count-suc n (λ i. p (suc i)))
@@ -84,7 +92,7 @@ count-sum (suc n) p q r h =
       count-sum n (λ i. p (suc i)) (λ i. q (suc i)) (λ i. r (suc i)) (λ i l. h (suc i) (suc-le-suc l)),
     )
 
-one-most : (b : Bool) → one b ≤ 1
+pub one-most : (b : Bool) → one b ≤ 1
 one-most true = le-refl 1
 one-most false = omega arith
 

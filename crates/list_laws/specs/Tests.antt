@@ -16,6 +16,10 @@ pub either : (a b : Bool) → T (a || b) → T a ⊎ T b
 either true b t = inl tt
 either false b t = inr t
 
+pub neither : (a b : Bool) → T (not (a || b)) → T (not a) × T (not b)
+neither true b t = absurd t
+neither false b t = (tt, t)
+
 -- a test holds or its negation does
 pub decided : (b : Bool) → T b ⊎ T (not b)
 decided true = inl tt

@@ -1,8 +1,8 @@
 -- Each call is lent copies of the tables of its size.
 -- Assumes nothing.
 use borrow.Author.Needs.{needs}
-use Rattle.reed_solomon.specs.Field.{w4, w6, w8, w10, w12}
-use Rattle.reed_solomon.specs.Tables.{tables-of}
+use Rattle.finite_field.specs.Field.{w4, w6, w8, w10, w12}
+use Rattle.finite_field.specs.Tables.{tables-of}
 use Rattle.field_check.proofs.main.Statement.{statement}
 use Rattle.field_check.proofs.main.Tie as tie
 

@@ -4,8 +4,8 @@ use borrow.Author.Needs.{needs}
 use native.Mathlib.Omega.{arith}
 use Prim.Native.Nat.{_-_, _≤_}
 use lib.ListN.{length}
-use Rattle.reed_solomon.specs.Field.{sizeOf}
-use Rattle.reed_solomon.specs.FieldLaws.{most-words}
+use Rattle.finite_field.specs.Field.{sizeOf}
+use Rattle.finite_field.specs.FieldLaws.{most-words}
 use Rattle.field_check.proofs.row.Statement.{statement}
 use Rattle.field_check.proofs.row.Tie as tie
 

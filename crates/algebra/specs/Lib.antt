@@ -1,0 +1,11 @@
+pub mod Field
+pub mod Sums
+pub mod Vandermonde
+pub mod Distance
+pub mod KeyEquation
+pub mod Erasures
+pub mod Locator
+pub mod Roots
+pub mod Values
+pub mod Exactness
+pub mod Horner

@@ -1,0 +1,14 @@
+-- The constant array is the table, entry by entry, by computation.
+-- Assumes nothing.
+use mathlib.Core.Path.{refl}
+use Rattle.finite_field.specs.Field.{timesX}
+use Rattle.finite_field.specs.Tables.{powers}
+use Rattle.finite_field.proofs.tables.powers_8.Statement.{statement}
+use Rattle.finite_field.proofs.tables.powers_8.Tie as tie
+
+returns : tie.Need-returns
+unfolding timesX powers
+returns c = refl
+
+pub powers-8-spec : {M : Type 1} → statement M
+powers-8-spec = tie.close (tie.spec returns)
