@@ -5,3 +5,4 @@ pub mod Generator
 pub mod Tree
 pub mod Tables
 pub mod FieldLaws
+pub mod Instance

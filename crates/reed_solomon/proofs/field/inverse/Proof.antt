@@ -3,11 +3,11 @@
 use borrow.Author.Needs.{needs}
 use mathlib.Core.Path.{sym, ap, _∙_}
 use native.Mathlib.Omega.{arith}
 use Rattle.finite_field.specs.Field.{sizeOf, inverse}
 use Rattle.finite_field.specs.FieldLaws.{inverse-zero}
-use Rattle.finite_field.proofs.ByTables.{log-word, inverse-at}
-use Rattle.finite_field.proofs.field.inverse.Statement.{statement}
-use Rattle.finite_field.proofs.field.inverse.Tie as tie
+use Rattle.reed_solomon.proofs.ByTables.{log-word, inverse-at}
+use Rattle.reed_solomon.proofs.field.inverse.Statement.{statement}
+use Rattle.reed_solomon.proofs.field.inverse.Tie as tie
 
 returns : tie.Need-returns
 returns c =

@@ -4,11 +4,11 @@ use borrow.Author.Needs.{needs}
 use mathlib.Core.Path.{_≡_, sym, ap, _∙_}
 use Prim.Native.Nat.{ℕ}
 use native.Mathlib.Omega.{arith}
 use Rattle.finite_field.specs.Field.{sizeOf, product, power}
 use Rattle.finite_field.specs.FieldLaws.{product-zero-left}
-use Rattle.finite_field.proofs.ByTables.{AtSum, at-sum}
-use Rattle.finite_field.proofs.field.times_power.Statement.{statement}
-use Rattle.finite_field.proofs.field.times_power.Tie as tie
+use Rattle.reed_solomon.proofs.ByTables.{AtSum, at-sum}
+use Rattle.reed_solomon.proofs.field.times_power.Statement.{statement}
+use Rattle.reed_solomon.proofs.field.times_power.Tie as tie
 
 abbrev start : tie.After-wide → tie.Start
 start c = c .before .before .before .before .before

@@ -4,11 +4,11 @@ use borrow.Author.Needs.{needs}
 use mathlib.Core.Path.{_≡_, sym, ap, _∙_}
 use Prim.Native.Nat.{ℕ}
 use native.Mathlib.Omega.{arith}
 use Rattle.finite_field.specs.Field.{sizeOf, product}
 use Rattle.finite_field.specs.FieldLaws.{product-zero-right}
-use Rattle.finite_field.proofs.ByTables.{log-word, power-of-log}
-use Rattle.finite_field.proofs.field.product.Statement.{statement}
-use Rattle.finite_field.proofs.field.product.Tie as tie
+use Rattle.reed_solomon.proofs.ByTables.{log-word, power-of-log}
+use Rattle.reed_solomon.proofs.field.product.Statement.{statement}
+use Rattle.reed_solomon.proofs.field.product.Tie as tie
 
 returns : tie.Need-returns
 returns c =

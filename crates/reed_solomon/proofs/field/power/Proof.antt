@@ -4,9 +4,9 @@ use Prim.Native.Nat.{_-_, _%_, _<_}
 use native.Mathlib.Nat.{mod-lt}
 use native.Mathlib.Omega.{arith}
 use lib.ListN.{length}
-use Rattle.finite_field.proofs.ByTables.{order-pos, power-at}
-use Rattle.finite_field.proofs.field.power.Statement.{statement}
-use Rattle.finite_field.proofs.field.power.Tie as tie
+use Rattle.reed_solomon.proofs.ByTables.{order-pos, power-at}
+use Rattle.reed_solomon.proofs.field.power.Statement.{statement}
+use Rattle.reed_solomon.proofs.field.power.Tie as tie
 
 remainder : (c : tie.Start) → c .args .k % (length (c .args .powers .now) - 1) < length (c .args .powers .now) - 1
 remainder c = mod-lt (c .args .k) (order-pos (c .pre))
