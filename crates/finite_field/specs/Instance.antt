@@ -131,10 +131,53 @@ module _ (s : WordSize) where
   unfolding x
   x-nonzero e = power-nonzero s 1 (sym (number-element (power s 1) (power-word s 1)) ∙ ap number e ∙ number-zero)
 
-  -- the entries of a list of words, as elements; what is no word is reduced to one
-  pub entry : List ℕ → ℕ → wordField .C
-  entry l i = element (getD l i 0 % 2 ^ bits s) (mod-lt (getD l i 0) (pow-pos (bits s)))
+  -- a number as an element: a word is itself, any other number is reduced to one
+  pub word : ℕ → wordField .C
+  word a = element (a % 2 ^ bits s) (mod-lt a (pow-pos (bits s)))
 
-  pub number-entry : (l : List ℕ) (i : ℕ) → Word s (getD l i 0) → number (entry l i) ≡ getD l i 0
-  unfolding entry
-  number-entry l i h = number-element _ _ ∙ mod-eq-of-lt h
+  -- the entries of a list, as elements; 0 past its end
+  abbrev pub entry : List ℕ → ℕ → wordField .C
+  entry l i = word (getD l i 0)
+
+  pub number-of-word : (a : ℕ) → Word s a → number (word a) ≡ a
+  unfolding word
+  number-of-word a h = number-element _ _ ∙ mod-eq-of-lt h
+
+  pub word-of-number : (a : wordField .C) → word (number a) ≡ a
+  word-of-number a = number-injective (number-of-word (number a) (number-word a))
+
+  pub word-injective : {a b : ℕ} → Word s a → Word s b → word a ≡ word b → a ≡ b
+  word-injective {a} {b} ha hb e = sym (number-of-word a ha) ∙ ap number e ∙ number-of-word b hb
+
+  pub word-zero : word 0 ≡ wordField .zer
+  word-zero = zero-of-number (number-of-word 0 (pow-pos (bits s)))
+
+  pub word-one : word 1 ≡ wordField .one
+  word-one = number-injective (number-of-word 1 (one-word s) ∙ sym number-one)
+
+  pub word-xor : {a b : ℕ} → Word s a → Word s b → word (a ⊕ b) ≡ wordField .add (word a) (word b)
+  word-xor {a} {b} ha hb =
+      number-injective
+      (number-of-word (a ⊕ b) (xor-lt (bits s) a b ha hb)
+      ∙ sym (number-add (word a) (word b) ∙ ap₂ _⊕_ (number-of-word a ha) (number-of-word b hb)))
+
+  pub word-product : {a b : ℕ} → Word s a → Word s b → word (product s a b) ≡ wordField .mul (word a) (word b)
+  word-product {a} {b} ha hb =
+      number-injective
+      (number-of-word (product s a b) (product-word s a b ha)
+      ∙ sym (number-mul (word a) (word b) ∙ ap₂ (product s) (number-of-word a ha) (number-of-word b hb)))
+
+  pub word-inverse : {a : ℕ} → Word s a → word (inverse s a) ≡ wordField .inv (word a)
+  word-inverse {a} ha =
+      number-injective
+      (number-of-word (inverse s a) (inverse-word s a ha) ∙ sym (number-inv (word a) ∙ ap (inverse s) (number-of-word a ha)))
+
+  pub word-power : (k : ℕ) → word (power s k) ≡ pow wordField x k
+  word-power k = number-injective (number-of-word (power s k) (power-word s k) ∙ sym (number-pow k))
+
+  pub word-times-power : {a : ℕ} (k : ℕ) → Word s a → word (product s a (power s k)) ≡ wordField .mul (word a) (pow wordField x k)
+  word-times-power {a} k ha = word-product ha (power-word s k) ∙ ap (wordField .mul (word a)) (word-power k)
+
+  -- a word is 0 where its element is
+  pub word-is-zero : {a : ℕ} → Word s a → word a ≡ wordField .zer → a ≡ 0
+  word-is-zero ha e = word-injective ha (pow-pos (bits s)) (e ∙ sym word-zero)

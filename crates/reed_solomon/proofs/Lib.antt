@@ -1,1 +1,2 @@
 pub mod ByTables
+pub mod Elements

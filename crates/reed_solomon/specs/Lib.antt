@@ -1,0 +1,4 @@
+pub mod Block
+pub mod Nearest
+pub mod Correct
+pub mod Steps
