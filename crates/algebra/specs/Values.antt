@@ -27,7 +27,7 @@ use Rattle.algebra.specs.Field.{
 }
 use Rattle.algebra.specs.Sums.{pow, sum-cong, sum-add, sum-mul, sum-last, sum-single, pow-zero}
 use Rattle.algebra.specs.Vandermonde.{powerSum, Distinct, distinct-ne}
-use Rattle.algebra.specs.KeyEquation.{eval, dot, dot-power-sum}
+use Rattle.algebra.specs.KeyEquation.{eval, eval-cong, dot, dot-power-sum}
 use Rattle.algebra.specs.Roots.{eval-first, quotient, quotient-root, zero-of-quotient, roots, many-roots}
 use Rattle.algebra.specs.Locator.{unit, unit-above, timesX}
 
@@ -91,6 +91,16 @@ module _ (F : Field) where
     pub above : (j : ℕ) → M < j → G j ≡ 𝟘
     pub lead : G M ≢ 𝟘
     pub root : (j : ℕ) → j < i → T (taken j) → eval F (suc M) G (X j) ≡ 𝟘
+
+  -- it is a matter of the coefficients alone
+  pub vanishing-cong : {X : ℕ → C} {taken : ℕ → Bool} {i M : ℕ} {G H : ℕ → C} → ((j : ℕ) → G j ≡ H j)
+      → Vanishing X taken i M G → Vanishing X taken i M H
+  vanishing-cong {X} {taken} {i} {M} {G} {H} e v = record {
+    degree = v .degree;
+    above = λ j l. sym (e j) ∙ v .above j l;
+    lead = λ z. v .lead (e M ∙ z);
+    root = λ j l t. sym (eval-cong F (suc M) G H (X j) (λ a _. e a)) ∙ v .root j l t;
+  }
 
   module _ (X : ℕ → C) (taken : ℕ → Bool) where
     pub vanishing-none : Vanishing X taken 0 0 (unit F)

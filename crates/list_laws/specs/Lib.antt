@@ -1,5 +1,6 @@
 pub mod Tests
 pub mod Range
 pub mod Filled
+pub mod Downward
 pub mod Parts
 pub mod Table

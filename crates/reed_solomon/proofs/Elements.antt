@@ -6,13 +6,16 @@ use Prim.Native.Nat.{ℕ, _≤_, _<_}
 use native.Mathlib.Omega.{arith}
 use native.Mathlib.Decide.{decLt}
 use lib.Bits.{xor-lt}
+use lib.Dec.{T, eqb, eqb→eq}
 use lib.ListN.{length, getD}
+use Rattle.algebra.specs.Field.{isZero, isZero→zero, zero→isZero}
 use Rattle.algebra.specs.Sums.{pow}
+use Rattle.list_laws.specs.Tests.{same-test}
 use Rattle.list_laws.specs.Filled.{filled, getD-filled, getD-unfilled}
 use Rattle.finite_field.specs.Xor.{_⊕_}
 use Rattle.finite_field.specs.Field.{WordSize, bits, Word, product, power}
 use Rattle.finite_field.specs.FieldLaws.{product-word}
-use Rattle.finite_field.specs.Instance.{wordField, word, x, word-xor, word-times-power}
+use Rattle.finite_field.specs.Instance.{wordField, word, number, x, word-xor, word-times-power, number-zero, zero-of-number}
 use Rattle.reed_solomon.specs.Block.{Words}
 
 module _ (s : WordSize) where
@@ -36,3 +39,10 @@ module _ (s : WordSize) where
       by : Dec (j < n) → Word s (getD (filled f n l) j 0)
       by (yes h) = subst (Word s) (sym (getD-filled f 0 n j l h)) (hf j h)
       by (no h) = let k : n ≤ j = omega arith in subst (Word s) (sym (getD-unfilled f 0 n j l k)) (hl j)
+
+  -- the test of a word against 0, and that of its element
+  pub zero-test : (a : wordField s .C) → eqb (number s a) 0 ≡ isZero (wordField s) a
+  zero-test a =
+      same-test (eqb (number s a) 0) (isZero (wordField s) a)
+      (λ t. zero→isZero (wordField s) a (zero-of-number s (eqb→eq (number s a) 0 t)))
+      (λ t. subst (λ (n : ℕ). T (eqb n 0)) (sym (ap (number s) (isZero→zero (wordField s) a t) ∙ number-zero s)) tt)

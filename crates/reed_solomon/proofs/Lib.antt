@@ -1,2 +1,14 @@
 pub mod ByTables
 pub mod Elements
+pub mod Counting
+pub mod Sequences
+pub mod Downward
+pub mod Combining
+pub mod Turn
+pub mod Evaluating
+pub mod Rooting
+pub mod Gathering
+pub mod Dividing
+pub mod Correcting
+pub mod Settling
+pub mod Acceptance

@@ -2,3 +2,10 @@ pub mod Block
 pub mod Nearest
 pub mod Correct
 pub mod Steps
+pub mod SearchLaws
+pub mod WordLists
+pub mod Polynomials
+pub mod FieldView
+pub mod NearestLaws
+pub mod CheckWords
+pub mod CheckWordsLaws

@@ -5,7 +5,7 @@
 use mathlib.Core.Path.{_≡_}
 use mathlib.Core.Bool.{Bool, not, cond, _&&_}
 use mathlib.Core.List.{List, [], _∷_}
-use mathlib.Core.Option.{Option, none, some}
+use mathlib.Core.Option.{Option, none, some, Option·map}
 use Prim.Native.Nat.{ℕ, zero, suc, _+_, _*_, _^_, _≤_}
 use lib.Dec.{eqb, leb}
 use lib.ListN.{length, getD}
@@ -35,7 +35,7 @@ unfoldable pub isNear : WordSize → ℕ → ℕ → List ℕ → List ℕ → L
 isNear s check limit received marks block =
     all check (λ j. eqb (value s block (power s (j + 1))) 0) && leb (2 * differ received marks block + unread marks) limit
 
-orElse : {A : Type 0} → Option A → Option A → Option A
+unfoldable pub orElse : {A : Type 0} → Option A → Option A → Option A
 orElse (some a) other = some a
 orElse none other = other
 
@@ -48,7 +48,7 @@ firstOf f (suc n) = orElse (firstOf f n) (f n)
 -- the first list of n numbers below q that passes the test
 unfoldable pub search : ℕ → ℕ → (List ℕ → Bool) → Option (List ℕ)
 search q zero test = cond (test []) (some []) none
-search q (suc n) test = firstOf (λ w. search q n (λ l. test (w ∷ l))) q
+search q (suc n) test = firstOf (λ w. Option·map (λ l. w ∷ l) (search q n (λ l. test (w ∷ l)))) q
 
-pub nearest : WordSize → ℕ → ℕ → List ℕ → List ℕ → Option (List ℕ)
+unfoldable pub nearest : WordSize → ℕ → ℕ → List ℕ → List ℕ → Option (List ℕ)
 nearest s check limit received marks = search (2 ^ bits s) (length received) (isNear s check limit received marks)
