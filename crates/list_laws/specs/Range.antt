@@ -8,7 +8,7 @@ use native.Mathlib.Nat.{zero-lt-suc, le-of-suc-le-suc, not-suc-le-zero, le-refl,
 use native.Mathlib.Numerals.{add-one}
 use native.Mathlib.Omega.{arith}
 use lib.Dec.{T}
-use Rattle.list_laws.specs.Tests.{both, both-parts}
+use Rattle.list_laws.specs.Tests.{both, both-parts, false-of}
 
 -- what holds below n, and at n, holds below n + 1
 pub up-to : (P : ℕ → Type 0) (n : ℕ) → ((i : ℕ) → i < n → P i) → P n → (i : ℕ) → i < suc n → P i
@@ -115,3 +115,15 @@ pub all-of : (n : ℕ) (p : ℕ → Bool) → ((i : ℕ) → i < n → T (p i)) 
 unfolding all
 all-of zero p h = tt
 all-of (suc n) p h = both (all n p) (p n) (all-of n p (λ i l. h i (omega arith))) (h n (le-refl (suc n)))
+
+-- one turn more of a count, and a test of all that fails at one place: what loops meet
+
+module _ (n : ℕ) (p : ℕ → Bool) where
+  pub count-yes : {e : ℕ} → e ≡ count n p → p n ≡ true → e + 1 ≡ count (n + 1) p
+  count-yes h t = omega (arith, count-last n p, ap one t)
+
+  pub count-no : {e : ℕ} → e ≡ count n p → p n ≡ false → e ≡ count (n + 1) p
+  count-no h t = omega (arith, count-last n p, ap one t)
+
+  pub all-but : (i : ℕ) → i < n → p i ≡ false → all n p ≡ false
+  all-but i l e = false-of (all n p) (λ t. rw e at (all-at n p t i l))

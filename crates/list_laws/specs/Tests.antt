@@ -26,6 +26,17 @@ pub decided : (b : Bool) → T b ⊎ T (not b)
 decided true = inl tt
 decided false = inr tt
 
+pub true-of : (b : Bool) → T b → b ≡ true
+true-of true t = refl
+true-of false t = absurd t
+
+pub false-of : (b : Bool) → (T b → ⊥) → b ≡ false
+false-of true n = absurd (n tt)
+false-of false n = refl
+
+pub holds : {b : Bool} → b ≡ true → T b
+holds e = rw e tt
+
 -- two tests that pass together are the same
 pub same-test : (a b : Bool) → (T a → T b) → (T b → T a) → a ≡ b
 same-test true true f g = refl

@@ -19,7 +19,7 @@ use Rattle.finite_field.specs.Instance.{wordField, word, entry, word-zero, word
 use Rattle.reed_solomon.specs.Block.{Words}
 use Rattle.reed_solomon.specs.Nearest.{marked, unread}
 use Rattle.reed_solomon.specs.Steps.{place, SyndromesOf, SettledAll, corrected, NearTo}
-use Rattle.reed_solomon.proofs.Counting.{true-of, holds, equal-tests}
+use Rattle.list_laws.specs.Tests.{true-of, holds, same-test}
 
 -- the first n words are 0
 abbrev pub zeros : ℕ → List ℕ → Bool
@@ -36,7 +36,7 @@ module _ (s : WordSize) where
 
   zero-test : {a : ℕ} → Word s a → isZero (wordField s) (word s a) ≡ eqb a 0
   zero-test {a} h =
-      equal-tests _ _
+      same-test _ _
       (λ t. holds (eq-eqb a 0 (word-is-zero s h (isZero→zero (wordField s) _ t))))
       (λ t. zero→isZero (wordField s) _ (ap (word s) (eqb→eq a 0 t) ∙ word-zero s))
 

@@ -18,7 +18,7 @@ use Rattle.finite_field.specs.Instance.{wordField, word, entry, number, number-
 use Rattle.reed_solomon.specs.Block.{Words}
 use Rattle.reed_solomon.specs.Steps.{Kept, Lengthened}
 use Rattle.reed_solomon.proofs.Elements.{filled-words}
-use Rattle.reed_solomon.proofs.Downward.{Between, between-all}
+use Rattle.list_laws.specs.Downward.{Between, between-all}
 
 module _ (s : WordSize) where
   number-product : {a b : ℕ} → Word s a → Word s b → number s (wordField s .mul (word s a) (word s b)) ≡ product s a b

@@ -45,11 +45,12 @@ module _ (s : WordSize) (n m : ℕ) (g syndromes noted : List ℕ) where
       (record {
         size = h .size;
         done =
-          up-to (Done l) i (h .done)
-          (rw nil (pow-pos (bits s)),
-          ap (word s) nil
-          ∙ word-zero s
-          ∙ sym (ap (λ b. cond b (missingAt i) (wordField s .zer)) (ne-eqb (getD noted i 0) 1 (λ e. ne (same ∙ e)))));
+            up-to (Done l) i (h .done) (
+              rw nil (pow-pos (bits s)),
+              ap (word s) nil
+                  ∙ word-zero s
+                  ∙ sym (ap (λ b. cond b (missingAt i) (wordField s .zer)) (ne-eqb (getD noted i 0) 1 (λ e. ne (same ∙ e)))),
+            );
         rest = λ j k. h .rest j (omega arith);
       })
     where
@@ -70,13 +71,14 @@ module _ (s : WordSize) (n m : ℕ) (g syndromes noted : List ℕ) where
       (record {
         size = length-set l i v ∙ h .size;
         done =
-          up-to (Done (set l i v)) i
-          (λ j k. subst (λ (a : ℕ). Word s a × (word s a ≡ cond (marked noted j) (missingAt j) (wordField s .zer)))
-          (sym (getD-set-other l i j v 0 (λ p. absurd (omega arith)))) (h .done j k))
-          (rw here (number-word s (missingAt i)),
-          ap (word s) here
-          ∙ word-of-number s (missingAt i)
-          ∙ sym (ap (λ b. cond b (missingAt i) (wordField s .zer)) (eq-eqb (getD noted i 0) 1 (sym same ∙ e))));
+            up-to (Done (set l i v)) i
+            (λ j k. subst (λ (a : ℕ). Word s a × (word s a ≡ cond (marked noted j) (missingAt j) (wordField s .zer)))
+            (sym (getD-set-other l i j v 0 (λ p. absurd (omega arith)))) (h .done j k)) (
+              rw here (number-word s (missingAt i)),
+              ap (word s) here
+                  ∙ word-of-number s (missingAt i)
+                  ∙ sym (ap (λ b. cond b (missingAt i) (wordField s .zer)) (eq-eqb (getD noted i 0) 1 (sym same ∙ e))),
+            );
         rest = λ j k. getD-set-other l i j v 0 (λ p. absurd (omega arith)) ∙ h .rest j (omega arith);
       })
 

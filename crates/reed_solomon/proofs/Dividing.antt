@@ -74,10 +74,11 @@ module _ (s : WordSize) (g syndromes : List ℕ) (m k : ℕ) where
     next-quotient pos er =
         let back : suc j - 1 ≡ j = omega arith in
         let turn =
-              eval-turn s (suc m) (entry s g) k (suc j) (d .quotient-word) (wg j) (omega arith) (omega (arith, d .j-le)) er
-              (ap (entry s g) (sym back)) (d .quotient-is) in
-        (turn .0,
-        turn .1 ∙ ap (evalFrom (wordField s) (suc m) (entry s g) X) (let e : suc j - 1 ≡ suc (j - 1) = omega arith in e))
+        eval-turn s (suc m) (entry s g) k (suc j) (d .quotient-word) (wg j) (omega arith) (omega (arith, d .j-le)) er
+        (ap (entry s g) (sym back)) (d .quotient-is) in (
+          turn .0,
+          turn .1 ∙ ap (evalFrom (wordField s) (suc m) (entry s g) X) (let e : suc j - 1 ≡ suc (j - 1) = omega arith in e),
+        )
 
     -- one turn: r is q · 2^k, p the next quotient's product with its syndrome, t is l · 2^k
     pub dividing-turn : 0 < j → {r p t : ℕ} → r ≡ product s q (power s k) → p ≡ product s (r ⊕ getD g j 0) (getD syndromes (j - 1) 0)
@@ -92,13 +93,13 @@ module _ (s : WordSize) (g syndromes : List ℕ) (m k : ℕ) where
           quotient-is = next .1;
           numerator-word = xor-word s (d .numerator-word) p-word;
           numerator-is =
-            word-xor s (d .numerator-word) p-word
-            ∙ ap₂ (wordField s .add) (d .numerator-is)
-            (ap (word s) ep
-            ∙ word-product s (next .0) (ws (j - 1))
-            ∙ ap₂ (wordField s .mul) (next .1) (ap (entry s syndromes) (sym (zero-add (j - 1)))))
-            ∙ ⊕-comm (wordField s) _ _
-            ∙ sym (sumFrom-step (wordField s) m term j pos (d .j-le));
+              word-xor s (d .numerator-word) p-word
+              ∙ ap₂ (wordField s .add) (d .numerator-is)
+              (ap (word s) ep
+              ∙ word-product s (next .0) (ws (j - 1))
+              ∙ ap₂ (wordField s .mul) (next .1) (ap (entry s syndromes) (sym (zero-add (j - 1)))))
+              ∙ ⊕-comm (wordField s) _ _
+              ∙ sym (sumFrom-step (wordField s) m term j pos (d .j-le));
           slope-word = slope .0;
           slope-is = slope .1;
         }
@@ -112,15 +113,15 @@ module _ (s : WordSize) (g syndromes : List ℕ) (m k : ℕ) where
       let r-word : Word s r = subst (Word s) (sym er) (product-word s n i (d .numerator-word)) in
       let whole : m - 0 ≡ m = omega arith in
       let top : word s n ≡ dot (wordField s) m Q (entry s syndromes) 0
-            = d .numerator-is
-            ∙ ap (sumFrom (wordField s) m term) done
-            ∙ ap (λ a. sum (wordField s) a (λ b. term (0 + b))) whole
-            ∙ sum-cong (wordField s) m _ _ (λ b _. ap term (zero-add b)) in
+      = d .numerator-is
+      ∙ ap (sumFrom (wordField s) m term) done
+      ∙ ap (λ a. sum (wordField s) a (λ b. term (0 + b))) whole
+      ∙ sum-cong (wordField s) m _ _ (λ b _. ap term (zero-add b)) in
       let bottom : word s c ≡ wordField s .mul X (Rattle.algebra.specs.KeyEquation.eval (wordField s) m Q X)
-            = ap (word s) ec
-            ∙ word-times-power s k (d .slope-word)
-            ∙ ap (λ a. wordField s .mul a X) (d .slope-is ∙ ap (evalFrom (wordField s) m Q X) done ∙ evalFrom-all (wordField s) m Q X)
-            ∙ ⊗-comm (wordField s) _ _ in
+      = ap (word s) ec
+      ∙ word-times-power s k (d .slope-word)
+      ∙ ap (λ a. wordField s .mul a X) (d .slope-is ∙ ap (evalFrom (wordField s) m Q X) done ∙ evalFrom-all (wordField s) m Q X)
+      ∙ ⊗-comm (wordField s) _ _ in
       sym (number-of-word s r r-word)
       ∙ ap (number s)
       (ap (word s) er

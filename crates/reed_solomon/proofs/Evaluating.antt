@@ -21,15 +21,16 @@ module _ (s : WordSize) where
       → Word s (r ⊕ w) × (word s (r ⊕ w) ≡ evalFrom (wordField s) N P (pow (wordField s) (x s) k) (j - 1))
   eval-turn N P k j {v} {w} hv hw pos le er ew ev =
       let X = pow (wordField s) (x s) k in
-      let next : suc (j - 1) ≡ j = omega arith in
-      (subst (λ (z : ℕ). Word s (z ⊕ w)) (sym er) (step-word s k hv hw),
-      ap (λ (z : ℕ). word s (z ⊕ w)) er
-      ∙ step-element s k hv hw
-      ∙ ap₂ (λ a b. wordField s .add (wordField s .mul a X) b) ev ew
-      ∙ ⊕-comm (wordField s) _ _
-      ∙ ap (wordField s .add (P (j - 1)))
-      (⊗-comm (wordField s) _ _ ∙ ap (λ i. wordField s .mul X (evalFrom (wordField s) N P X i)) (sym next))
-      ∙ sym (evalFrom-step (wordField s) N P X (j - 1) (omega arith)))
+      let next : suc (j - 1) ≡ j = omega arith in (
+        subst (λ (z : ℕ). Word s (z ⊕ w)) (sym er) (step-word s k hv hw),
+        ap (λ (z : ℕ). word s (z ⊕ w)) er
+            ∙ step-element s k hv hw
+            ∙ ap₂ (λ a b. wordField s .add (wordField s .mul a X) b) ev ew
+            ∙ ⊕-comm (wordField s) _ _
+            ∙ ap (wordField s .add (P (j - 1)))
+            (⊗-comm (wordField s) _ _ ∙ ap (λ i. wordField s .mul X (evalFrom (wordField s) N P X i)) (sym next))
+            ∙ sym (evalFrom-step (wordField s) N P X (j - 1) (omega arith)),
+      )
 
 module _ (F : Field) where
   -- the terms from j on

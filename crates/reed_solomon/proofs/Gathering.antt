@@ -89,12 +89,12 @@ module _ (s : WordSize) (degree : ℕ) (p marks : List ℕ) where
       (record {
         words = r .words;
         noted =
-          up-to (λ j. getD (set places i 1) j 0 ≡ one (takenAt s degree p marks j)) i
-          (λ j k. getD-set-other places i j 1 0 (λ e. absurd (omega arith)) ∙ h .noted j k)
-          (getD-set-same places i 1 0 l ∙ sym (one-yes (takenAt s degree p marks i) t));
+            up-to (λ j. getD (set places i 1) j 0 ≡ one (takenAt s degree p marks j)) i
+            (λ j k. getD-set-other places i j 1 0 (λ e. absurd (omega arith)) ∙ h .noted j k)
+            (getD-set-same places i 1 0 l ∙ sym (one-yes (takenAt s degree p marks i) t));
         rest = λ j k. getD-set-other places i j 1 0 (λ e. absurd (omega arith)) ∙ h .rest j (omega arith);
         vanishing =
-          vanishing-cong (wordField s) (rooted-entries (length marks - 1 - i) m g (h .vanishing .above) r) (vanishing-take (wordField s) _ _ (h .vanishing) t);
+            vanishing-cong (wordField s) (rooted-entries (length marks - 1 - i) m g (h .vanishing .above) r) (vanishing-take (wordField s) _ _ (h .vanishing) t);
       })
 
   pub gathering-all : {i m : ℕ} {places g : List ℕ} → Gathering i m places g → i ≡ length marks → Gathered s degree p marks m places g

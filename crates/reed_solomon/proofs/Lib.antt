@@ -1,8 +1,6 @@
 pub mod ByTables
 pub mod Elements
-pub mod Counting
 pub mod Sequences
-pub mod Downward
 pub mod Combining
 pub mod Turn
 pub mod Evaluating
@@ -12,3 +10,6 @@ pub mod Dividing
 pub mod Correcting
 pub mod Settling
 pub mod Acceptance
+pub mod Proposing
+pub mod Solving
+pub mod Judging

@@ -11,7 +11,7 @@ use Rattle.algebra.specs.Field.{⊕-comm, ⊗-comm, zero-⊕}
 use Rattle.algebra.specs.Sums.{pow}
 use Rattle.algebra.specs.Locator.{timesX}
 use Rattle.algebra.specs.Values.{timesRoot}
-use Rattle.list_laws.specs.Downward.{FilledDown}
+use Rattle.list_laws.specs.Downward.{Between}
 use Rattle.finite_field.specs.Xor.{_⊕_}
 use Rattle.finite_field.specs.Field.{WordSize, Word, product, power}
 use Rattle.finite_field.specs.FieldLaws.{product-word}
@@ -25,7 +25,7 @@ module _ (s : WordSize) (k : ℕ) where
   abbrev pub raised : List ℕ → ℕ → ℕ
   raised g i = product s (getD g i 0) (power s k) ⊕ getD g (i - 1) 0
 
-  module _ (m : ℕ) {g h : List ℕ} (wg : Words s g) (fits : m + 2 ≤ length g) (d : FilledDown (raised g) 0 (m + 2) 1 g h) where
+  module _ (m : ℕ) {g h : List ℕ} (wg : Words s g) (fits : m + 2 ≤ length g) (d : Between (raised g) 1 (m + 2) g h) where
     -- the list when the lowest coefficient is multiplied too
     pub rooted : {v : ℕ} → v ≡ product s (getD g 0 0) (power s k) → Rooted s k m g (set h 0 v)
     unfolding timesX
@@ -40,7 +40,7 @@ module _ (s : WordSize) (k : ℕ) where
         at : (i : ℕ) → Dec (i < m + 2) → Word s (getD (set h 0 v) i 0)
         at zero l = subst (Word s) (sym low) (product-word s (getD g 0 0) (power s k) (wg 0))
         at (suc i) (yes l) =
-            subst (Word s) (sym (high (suc i) (omega arith) ∙ d .done (suc i) (omega arith) l)) (step-word s k (wg (suc i)) (wg (suc i - 1)))
+            subst (Word s) (sym (high (suc i) (omega arith) ∙ d .within (suc i) (omega arith) l)) (step-word s k (wg (suc i)) (wg (suc i - 1)))
         at (suc i) (no l) = subst (Word s) (sym (high (suc i) (omega arith) ∙ d .above (suc i) (omega arith))) (wg (suc i))
 
         words : Words s (set h 0 v)
@@ -54,7 +54,7 @@ module _ (s : WordSize) (k : ℕ) where
             ∙ sym (zero-⊕ (wordField s) _)
         coefficients (suc j) l =
             let one-less : suc j - 1 ≡ j = omega arith in
-            ap (word s) (high (suc j) (omega arith) ∙ d .done (suc j) (omega arith) (omega arith))
+            ap (word s) (high (suc j) (omega arith) ∙ d .within (suc j) (omega arith) (omega arith))
             ∙ step-element s k (wg (suc j)) (wg (suc j - 1))
             ∙ ⊕-comm (wordField s) _ _
             ∙ ap₂ (wordField s .add) (ap (entry s g) one-less) (⊗-comm (wordField s) _ _)

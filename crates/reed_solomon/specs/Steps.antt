@@ -4,7 +4,7 @@
 use mathlib.Core.Path.{_≡_}
 use mathlib.Core.Bool.{Bool, cond, not}
 use mathlib.Core.List.{List}
-use Prim.Native.Nat.{ℕ, suc, _≤_, _<_}
+use Prim.Native.Nat.{ℕ, suc, _^_, _≤_, _<_}
 use lib.Dec.{T}
 use lib.ListN.{length, getD}
 use Rattle.algebra.specs.Field.{Field}
@@ -17,7 +17,8 @@ use Rattle.algebra.specs.Values as values
 use Rattle.algebra.specs.Exactness as exactness
 use Rattle.algebra.specs.Horner as horner
 use Rattle.list_laws.specs.Range.{one}
-use Rattle.finite_field.specs.Field.{WordSize, Word}
+use Rattle.finite_field.specs.Xor.{_⊕_}
+use Rattle.finite_field.specs.Field.{WordSize, bits, Word}
 use Rattle.finite_field.specs.Instance.{wordField, word, entry, x}
 use Rattle.reed_solomon.specs.Block.{Words}
 use Rattle.reed_solomon.specs.Nearest.{marked}
@@ -30,10 +31,23 @@ ZeroFrom n l = (j : ℕ) → n ≤ j → getD l j 0 ≡ 0
 abbrev pub SameFrom : ℕ → List ℕ → List ℕ → Type 0
 SameFrom n l m = (j : ℕ) → n ≤ j → getD m j 0 ≡ getD l j 0
 
+-- a work slice as it comes: longer than a block of n words, and zeros
+pub record Blank (n : ℕ) (l : List ℕ) : Type 0 where
+  pub longer : n < length l
+  pub zeros : ZeroFrom 0 l
+
 module _ (s : WordSize) where
   -- what is not marked is a word
   abbrev pub Readable : List ℕ → List ℕ → Type 0
   Readable received marks = (i : ℕ) → T (not (marked marks i)) → Word s (getD received i 0)
+
+  -- what a corrector for lawful words is given
+  pub record Lawful (check limit : ℕ) (received marks : List ℕ) : Type 0 where
+    pub readable : Readable received marks
+    pub same-length : length marks ≡ length received
+    pub limit-le : limit ≤ check
+    pub check-lt : check < length received
+    pub length-lt : length received < 2 ^ bits s
 
   -- the locator of word i of n: 2^(n - 1 - i)
   abbrev pub place : ℕ → ℕ → wordField s .C
@@ -148,3 +162,7 @@ module _ (s : WordSize) where
     pub words : Words s corrections
     pub only : (y : ℕ → wordField s .C) → SyndromesOf check (length marks) y syndromes
         → (b : ℕ → wordField s .C) → NearTo check limit marks y b → (i : ℕ) → i < length marks → corrected y corrections i ≡ b i
+
+-- what write leaves at place i: the correction alone where the word is marked
+abbrev pub writtenAt : List ℕ → List ℕ → List ℕ → ℕ → ℕ
+writtenAt received marks corrections i = cond (marked marks i) (getD corrections i 0) (getD received i 0 ⊕ getD corrections i 0)

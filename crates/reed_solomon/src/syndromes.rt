@@ -10,7 +10,6 @@ ghost use Rattle.finite_field.specs.Field.{sizeOf, bits, Word, product, power};
 ghost use Rattle.finite_field.specs.Tables.{Tables};
 ghost use Rattle.reed_solomon.specs.Block.{Words};
 ghost use Rattle.reed_solomon.specs.Steps.{ZeroFrom, Readable, Syndromes, Erased};
-
 use crate::field;
 
 // One word more of the block goes into each syndrome: s_j ← s_j · 2^(j+1) + word.
@@ -37,7 +36,15 @@ fn read_word(word: u16, mark: u8) -> u16
 }
 
 // The block's polynomial at 2^1 .. 2^count. `out` comes as zeros.
-pub fn syndromes(size: u32, powers: &[u16], logs: &[u16], received: &[u16], marks: &[u8], count: usize, out: &mut [u16])
+pub fn syndromes(
+    size: u32,
+    powers: &[u16],
+    logs: &[u16],
+    received: &[u16],
+    marks: &[u8],
+    count: usize,
+    out: &mut [u16],
+)
     requires { ⌜ Tables (sizeOf size) (now powers) (now logs) ⌝ ∗ ⌜ Readable (sizeOf size) (now received) (now marks) ⌝ }
     requires { ⌜ length (now marks) ≡ length (now received) ⌝ ∗ ⌜ count < 2 ^ bits (sizeOf size) ⌝ }
     requires { ⌜ count ≤ length (now out) ⌝ ∗ ⌜ ZeroFrom 0 (now out) ⌝ }
@@ -45,7 +52,14 @@ pub fn syndromes(size: u32, powers: &[u16], logs: &[u16], received: &[u16], mark
 {
     let mut i = 0;
     while i < received.len() {
-        absorb(size, powers, logs, read_word(received[i], marks[i]), count, out);
+        absorb(
+            size,
+            powers,
+            logs,
+            read_word(received[i], marks[i]),
+            count,
+            out,
+        );
         i += 1;
     }
 }

@@ -12,7 +12,6 @@ ghost use Rattle.finite_field.specs.Tables.{Tables};
 ghost use Rattle.finite_field.specs.Instance.{wordField, entry, number, x};
 ghost use Rattle.reed_solomon.specs.Block.{Words};
 ghost use Rattle.reed_solomon.specs.Steps as steps;
-
 use crate::field;
 
 // The polynomial p of count coefficients at 2^k, from its highest coefficient down.
@@ -45,7 +44,15 @@ fn times_root(size: u32, powers: &[u16], logs: &[u16], k: usize, m: usize, g: &m
 }
 
 // Whether word i may be wrong: it is marked, or the locator p of this degree vanishes at its locator.
-fn is_taken(size: u32, powers: &[u16], logs: &[u16], p: &[u16], degree: usize, marks: &[u8], i: usize) -> bool
+fn is_taken(
+    size: u32,
+    powers: &[u16],
+    logs: &[u16],
+    p: &[u16],
+    degree: usize,
+    marks: &[u8],
+    i: usize,
+) -> bool
     requires { ⌜ Tables (sizeOf size) (now powers) (now logs) ⌝ ∗ ⌜ Words (sizeOf size) (now p) ⌝ }
     requires { ⌜ degree < length (now p) ⌝ ∗ ⌜ i < length (now marks) ⌝ ∗ ⌜ length (now marks) ≤ 2 ^ bits (sizeOf size) ⌝ }
     ensures { λ r. ⌜ r ≡ steps.takenAt (sizeOf size) degree (now (p .entry)) (now (marks .entry)) i ⌝ }
@@ -58,7 +65,16 @@ fn is_taken(size: u32, powers: &[u16], logs: &[u16], p: &[u16], degree: usize, m
 
 // Notes the taken places (1) in `places`, makes g the polynomial that vanishes at them, and answers how many there are. Both come as
 // zeros.
-pub fn gather(size: u32, powers: &[u16], logs: &[u16], p: &[u16], degree: usize, marks: &[u8], places: &mut [u16], g: &mut [u16]) -> usize
+pub fn gather(
+    size: u32,
+    powers: &[u16],
+    logs: &[u16],
+    p: &[u16],
+    degree: usize,
+    marks: &[u8],
+    places: &mut [u16],
+    g: &mut [u16],
+) -> usize
     requires { ⌜ Tables (sizeOf size) (now powers) (now logs) ⌝ ∗ ⌜ Words (sizeOf size) (now p) ⌝ }
     requires { ⌜ degree < length (now p) ⌝ ∗ ⌜ length (now marks) ≤ 2 ^ bits (sizeOf size) ⌝ ∗ ⌜ length (now marks) ≤ length (now places) ⌝ }
     requires { ⌜ length (now marks) < length (now g) ⌝ ∗ ⌜ steps.ZeroFrom 0 (now places) ⌝ ∗ ⌜ steps.ZeroFrom 0 (now g) ⌝ }
@@ -80,7 +96,15 @@ pub fn gather(size: u32, powers: &[u16], logs: &[u16], p: &[u16], degree: usize,
 
 // The value missing at the locator 2^k, a root of g: with the quotient of g by x + 2^k, the sum of its coefficients times the
 // syndromes, over 2^k times its value at 2^k.
-fn correction(size: u32, powers: &[u16], logs: &[u16], g: &[u16], m: usize, syndromes: &[u16], k: usize) -> u16
+fn correction(
+    size: u32,
+    powers: &[u16],
+    logs: &[u16],
+    g: &[u16],
+    m: usize,
+    syndromes: &[u16],
+    k: usize,
+) -> u16
     requires { ⌜ Tables (sizeOf size) (now powers) (now logs) ⌝ ∗ ⌜ Words (sizeOf size) (now g) ⌝ ∗ ⌜ Words (sizeOf size) (now syndromes) ⌝ }
     requires { ⌜ m < length (now g) ⌝ ∗ ⌜ m ≤ length (now syndromes) ⌝ ∗ ⌜ k < 2 ^ bits (sizeOf size) ⌝ }
     ensures { λ r. ⌜ r ≡ number (sizeOf size) (exactness.correction (wordField (sizeOf size)) m (entry (sizeOf size) (now (g .entry))) (entry (sizeOf size) (now (syndromes .entry))) (pow (wordField (sizeOf size)) (x (sizeOf size)) k)) ⌝ }
@@ -96,11 +120,26 @@ fn correction(size: u32, powers: &[u16], logs: &[u16], g: &[u16], m: usize, synd
         slope = field::times_power(size, powers, logs, slope, k) ^ quotient;
     }
     let denominator = field::times_power(size, powers, logs, slope, k);
-    field::product(size, powers, logs, numerator, field::inverse(size, powers, logs, denominator))
+    field::product(
+        size,
+        powers,
+        logs,
+        numerator,
+        field::inverse(size, powers, logs, denominator),
+    )
 }
 
 // The corrections of n words: `places` has 1 at the noted ones, and then what is missing there; 0 elsewhere.
-pub fn corrections(size: u32, powers: &[u16], logs: &[u16], g: &[u16], m: usize, syndromes: &[u16], n: usize, places: &mut [u16])
+pub fn corrections(
+    size: u32,
+    powers: &[u16],
+    logs: &[u16],
+    g: &[u16],
+    m: usize,
+    syndromes: &[u16],
+    n: usize,
+    places: &mut [u16],
+)
     requires { ⌜ Tables (sizeOf size) (now powers) (now logs) ⌝ ∗ ⌜ Words (sizeOf size) (now g) ⌝ ∗ ⌜ Words (sizeOf size) (now syndromes) ⌝ }
     requires { ⌜ m < length (now g) ⌝ ∗ ⌜ m ≤ length (now syndromes) ⌝ ∗ ⌜ n ≤ length (now places) ⌝ ∗ ⌜ n ≤ 2 ^ bits (sizeOf size) ⌝ }
     requires { ⌜ steps.ZeroFrom n (now places) ⌝ ∗ ⌜ ((i : ℕ) → i < n → getD (now places) i 0 ≤ 1) ⌝ }

@@ -7,8 +7,8 @@ use mathlib.Core.Path.{_≡_, sym}
 use Prim.Native.Nat.{ℕ, _≤_, _<_, _-_}
 use native.Mathlib.Omega.{arith}
 use lib.ListN.{getD}
-use Rattle.list_laws.specs.Range.{all-of}
-use Rattle.reed_solomon.proofs.Counting.{true-of, holds, all-but}
+use Rattle.list_laws.specs.Range.{all-of, all-but}
+use Rattle.list_laws.specs.Tests.{true-of, holds}
 use Rattle.reed_solomon.proofs.accept.all_zero.Statement.{statement}
 use Rattle.reed_solomon.proofs.accept.all_zero.Tie as tie
 

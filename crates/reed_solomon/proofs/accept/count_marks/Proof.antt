@@ -7,9 +7,8 @@ use mathlib.Core.Logic.{⊎-elim}
 use Prim.Native.Nat.{_≤_, _-_}
 use native.Mathlib.Omega.{arith}
 use lib.ListN.{length}
-use Rattle.list_laws.specs.Range.{count, count-none, count-most}
+use Rattle.list_laws.specs.Range.{count, count-none, count-most, count-yes, count-no}
 use Rattle.reed_solomon.specs.Nearest.{marked}
-use Rattle.reed_solomon.proofs.Counting.{count-yes, count-no}
 use Rattle.reed_solomon.proofs.accept.count_marks.Statement.{statement}
 use Rattle.reed_solomon.proofs.accept.count_marks.Tie as tie
 

@@ -10,9 +10,8 @@ use Prim.Native.Nat.{ℕ, _≤_, _-_}
 use native.Mathlib.Omega.{arith}
 use lib.Dec.{eqb}
 use lib.ListN.{length, getD}
-use Rattle.list_laws.specs.Range.{count, count-none, count-most}
+use Rattle.list_laws.specs.Range.{count, count-none, count-most, count-yes, count-no}
 use Rattle.reed_solomon.specs.Nearest.{marked}
-use Rattle.reed_solomon.proofs.Counting.{count-yes, count-no}
 use Rattle.reed_solomon.proofs.accept.count_wrong.Statement.{statement}
 use Rattle.reed_solomon.proofs.accept.count_wrong.Tie as tie
 

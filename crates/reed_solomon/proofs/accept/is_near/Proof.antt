@@ -4,7 +4,7 @@ use borrow.Author.Needs.{needs}
 use mathlib.Core.Path.{sym, _∙_}
 use native.Mathlib.Omega.{arith}
 use Rattle.finite_field.specs.Field.{sizeOf}
-use Rattle.reed_solomon.proofs.Counting.{holds}
+use Rattle.list_laws.specs.Tests.{holds}
 use Rattle.reed_solomon.proofs.Acceptance.{count-words, near, near-zeros, not-near}
 use Rattle.reed_solomon.proofs.accept.is_near.Statement.{statement}
 use Rattle.reed_solomon.proofs.accept.is_near.Tie as tie

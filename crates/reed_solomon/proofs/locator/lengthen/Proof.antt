@@ -8,7 +8,7 @@ use native.Mathlib.Omega.{arith}
 use lib.ListN.{getD}
 use Rattle.finite_field.specs.Xor.{_⊕_}
 use Rattle.finite_field.specs.Field.{sizeOf, Word, product}
-use Rattle.reed_solomon.proofs.Downward.{Between, between-none, between-down}
+use Rattle.list_laws.specs.Downward.{Between, between-none, between-down}
 use Rattle.reed_solomon.proofs.Combining.{combined, both-terms, first-term, lengthened}
 use Rattle.reed_solomon.proofs.locator.lengthen.Statement.{statement}
 use Rattle.reed_solomon.proofs.locator.lengthen.Tie as tie

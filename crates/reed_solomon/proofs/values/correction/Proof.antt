@@ -46,11 +46,14 @@ shared-slice-read-product c = search needs
 product-requires : tie.Need-product-requires Inv-loop μ-loop
 product-requires c κs =
     let start = c .before .before .before .before .before .before .before .before .before in
-    let l = c .before .before .before .before .loop in
-    (start .pre .0,
-    (next-quotient (sizeOf (start .args .size)) (start .args .g .now) (start .args .syndromes .now) (start .args .m) (start .args .k)
-    (start .pre .1 .0) (start .pre .1 .1 .0) (l .inv) (search needs) (c .before .before .times-power .ensures) .0,
-    start .pre .1 .1 .0 (l .j - 1)))
+    let l = c .before .before .before .before .loop in (
+      start .pre .0,
+      (
+        next-quotient (sizeOf (start .args .size)) (start .args .g .now) (start .args .syndromes .now) (start .args .m) (start .args .k)
+            (start .pre .1 .0) (start .pre .1 .1 .0) (l .inv) (search needs) (c .before .before .times-power .ensures) .0,
+        start .pre .1 .1 .0 (l .j - 1),
+      ),
+    )
 
 times-power-requires-2 : tie.Need-times-power-requires-2 Inv-loop μ-loop
 times-power-requires-2 c κs =
@@ -76,21 +79,25 @@ inverse-requires : tie.Need-inverse-requires Inv-loop μ-loop
 inverse-requires c κs =
     let start = c .before .before .before .before .before .before .before in
     let l = c .before .before .loop in
-    let size = sizeOf (start .args .size) in
-    (start .pre .0,
-    subst (Word size) (sym (c .times-power3 .ensures)) (product-word size (l .slope) (power size (start .args .k)) (l .inv .slope-word)))
+    let size = sizeOf (start .args .size) in (
+      start .pre .0,
+      subst (Word size) (sym (c .times-power3 .ensures)) (product-word size (l .slope) (power size (start .args .k)) (l .inv .slope-word)),
+    )
 
 product-requires-2 : tie.Need-product-requires-2 Inv-loop μ-loop
 product-requires-2 c κs =
     let start = c .before .before .before .before .before .before .before .before in
     let l = c .before .before .before .loop in
-    let size = sizeOf (start .args .size) in
-    (start .pre .0,
-    (l .inv .numerator-word,
-    subst (Word size) (sym (c .inverse .ensures))
-    (inverse-word size _
-    (subst (Word size) (sym (c .before .times-power3 .ensures))
-    (product-word size (l .slope) (power size (start .args .k)) (l .inv .slope-word))))))
+    let size = sizeOf (start .args .size) in (
+      start .pre .0,
+      (
+        l .inv .numerator-word,
+        subst (Word size) (sym (c .inverse .ensures))
+            (inverse-word size _
+            (subst (Word size) (sym (c .before .times-power3 .ensures))
+            (product-word size (l .slope) (power size (start .args .k)) (l .inv .slope-word)))),
+      ),
+    )
 
 returns : tie.Need-returns Inv-loop μ-loop
 returns c =

@@ -66,8 +66,8 @@ loop-again c =
     (λ w. (
       search needs,
       rw (w .1)
-      (correcting-skip size (a .n) (a .m) (a .g .now) (a .syndromes .now) (a .places .now) (l .inv .1)
-      (start .pre .1 .1 .1 .1 .1 .1 .1 .1 (l .i) (search needs)) (w .0 .left)),
+          (correcting-skip size (a .n) (a .m) (a .g .now) (a .syndromes .now) (a .places .now) (l .inv .1)
+          (start .pre .1 .1 .1 .1 .1 .1 .1 .1 (l .i) (search needs)) (w .0 .left)),
     ))
     (c .if1 .came)
 

@@ -27,10 +27,11 @@ abbrev μ-loop : tie.MeasureT-loop
 loop-holds : tie.Need-loop-holds Inv-loop μ-loop
 loop-holds c =
     let a = c .before .before .before .args in
-    let size = sizeOf (a .size) in
-    (le-refl (a .count),
-    pow-pos (bits size),
-    word-zero size ∙ sym (evalFrom-none (wordField size) (a .count) (entry size (a .p .now)) _ (a .count) (le-refl (a .count))))
+    let size = sizeOf (a .size) in (
+      le-refl (a .count),
+      pow-pos (bits size),
+      word-zero size ∙ sym (evalFrom-none (wordField size) (a .count) (entry size (a .p .now)) _ (a .count) (le-refl (a .count))),
+    )
 
 sub-j : tie.Need-sub-j Inv-loop μ-loop
 sub-j c = search needs
@@ -55,7 +56,7 @@ loop-again c =
     let l = c .before .before .before .loop in
     let size = sizeOf (start .args .size) in
     let turn = eval-turn size (start .args .count) (entry size (start .args .p .now)) (start .args .k) (l .j) (l .inv .1)
-            (start .pre .1 .0 (l .j - 1)) (search needs) (l .inv .0) (c .before .times-power .ensures) refl (l .inv .2) in
+    (start .pre .1 .0 (l .j - 1)) (search needs) (l .inv .0) (c .before .times-power .ensures) refl (l .inv .2) in
     (omega arith, turn .0, turn .1)
 
 returns : tie.Need-returns Inv-loop μ-loop

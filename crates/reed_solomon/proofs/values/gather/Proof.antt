@@ -29,12 +29,13 @@ slice-write-g c = search needs
 loop-holds : tie.Need-loop-holds Inv-loop μ-loop
 loop-holds c =
     let start = c .before .before .before .before .before .before in
-    let a = start .args in
-    (search needs,
-    refl,
-    refl,
-    gathering-none (sizeOf (a .size)) (a .degree) (a .p .now) (a .marks .now) (a .g .now) (start .pre .1 .1 .1 .1 .1 .1 .0)
-    (start .pre .1 .1 .1 .1 .1 .1 .1) (search needs))
+    let a = start .args in (
+      search needs,
+      refl,
+      refl,
+      gathering-none (sizeOf (a .size)) (a .degree) (a .p .now) (a .marks .now) (a .g .now) (start .pre .1 .1 .1 .1 .1 .1 .0)
+          (start .pre .1 .1 .1 .1 .1 .1 .1) (search needs),
+    )
 
 is-taken-requires : tie.Need-is-taken-requires Inv-loop μ-loop
 is-taken-requires c κs = search needs
@@ -50,9 +51,10 @@ times-root-requires c κs =
     let start = c .before .before .before .before .before .before .before .before .before .before .before in
     let a = start .args in
     let l = c .before .before .before .before .loop in
-    let few = degree-le (sizeOf (a .size)) (a .degree) (a .p .now) (a .marks .now) (l .inv .3) in
-    (start .pre .0,
-    (l .inv .3 .words, (omega (arith, start .pre .1 .1 .1 .0), omega (arith, l .inv .2, length-set (a .g .now) 0 1))))
+    let few = degree-le (sizeOf (a .size)) (a .degree) (a .p .now) (a .marks .now) (l .inv .3) in (
+      start .pre .0,
+      (l .inv .3 .words, (omega (arith, start .pre .1 .1 .1 .0), omega (arith, l .inv .2, length-set (a .g .now) 0 1))),
+    )
 
 mul-places : tie.Need-mul-places Inv-loop μ-loop
 mul-places c = search needs

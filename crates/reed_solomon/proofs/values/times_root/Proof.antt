@@ -4,8 +4,8 @@ use borrow.Author.Needs.{needs}
 use mathlib.Core.Path.{_≡_, sym, ap, ap₂, _∙_, subst}
 use Prim.Native.Nat.{ℕ, _+_, _-_, _≤_, _<_}
 use native.Mathlib.Omega.{arith}
-use lib.ListN.{length}
-use Rattle.list_laws.specs.Downward.{FilledDown, down-start, down-step}
+use lib.ListN.{length, getD, set}
+use Rattle.list_laws.specs.Downward.{Between, between-none, between-down}
 use Rattle.finite_field.specs.Xor.{_⊕_}
 use Rattle.finite_field.specs.Field.{sizeOf, Word, product, power}
 use Rattle.reed_solomon.proofs.Rooting.{raised, rooted}
@@ -14,7 +14,7 @@ use Rattle.reed_solomon.proofs.values.times_root.Tie as tie
 
 abbrev Inv-loop : tie.InvT-loop
 Inv-loop size powers logs k m g₀ j₀ g j =
-    (j ≤ m + 1) × FilledDown (raised (sizeOf size) k g₀) 0 (m + 2) (j + 1) g₀ g
+    (j ≤ m + 1) × Between (raised (sizeOf size) k g₀) (j + 1) (m + 2) g₀ g
 
 abbrev μ-loop : tie.MeasureT-loop
 μ-loop size powers logs k m g₀ j₀ g j = j
@@ -34,10 +34,13 @@ slice-read-times-power c = search needs
 times-power-requires : tie.Need-times-power-requires Inv-loop μ-loop
 times-power-requires c κs =
     let start = c .before .before .before .before .before .before in
-    let l = c .before .before .loop in
-    (start .pre .0,
-    (subst (Word (sizeOf (start .args .size))) (sym (l .inv .1 .below (l .j) (omega arith))) (start .pre .1 .0 (l .j)),
-    start .pre .1 .1 .0))
+    let l = c .before .before .loop in (
+      start .pre .0,
+      (
+        subst (Word (sizeOf (start .args .size))) (sym (l .inv .1 .below (l .j) (omega arith))) (start .pre .1 .0 (l .j)),
+        start .pre .1 .1 .0,
+      ),
+    )
 
 sub-g : tie.Need-sub-g Inv-loop μ-loop
 sub-g c = search needs
@@ -68,13 +71,16 @@ loop-again c =
     let g₀ = start .args .g .now in
     let fits : start .args .m + 2 ≤ length g₀ = search needs in
     let pos : 0 < l .j = search needs in
-    let here : l .j ≡ l .j - 1 + 1 = omega arith in
-    (omega arith,
-    rw (← here)
-    (down-step (raised size (start .args .k) g₀) 0 (start .args .m + 2) (l .j) (l .inv .1) (omega arith) fits
-    (ap₂ _⊕_
-    (c .before .times-power .ensures ∙ ap (λ (a : ℕ). product size a (power size (start .args .k))) (l .inv .1 .below (l .j) (omega arith)))
-    (l .inv .1 .below (l .j - 1) (omega arith)))))
+    let back : l .j + 1 - 1 ≡ l .j = omega arith in
+    let here : l .j + 1 - 1 ≡ l .j - 1 + 1 = omega arith in (
+      omega arith,
+      rw (← here)
+          (between-down (omega arith) (omega arith) fits (l .inv .1) (ap (λ (i : ℕ). set (l .g) i (c .before .times-power .result ⊕ getD (l .g) (l .j - 1) 0)) (sym back))
+          (ap₂ _⊕_
+          (c .before .times-power .ensures ∙ ap (λ (a : ℕ). product size a (power size (start .args .k))) (l .inv .1 .below (l .j) (omega arith)))
+          (l .inv .1 .below (l .j - 1) (omega arith))
+          ∙ ap (raised size (start .args .k) g₀) (sym back))),
+    )
 
 slice-read-times-power-2 : tie.Need-slice-read-times-power-2 Inv-loop μ-loop
 slice-read-times-power-2 c = search needs
@@ -82,9 +88,10 @@ slice-read-times-power-2 c = search needs
 times-power-requires-2 : tie.Need-times-power-requires-2 Inv-loop μ-loop
 times-power-requires-2 c κs =
     let start = c .before .before .before .before .before .before in
-    let l = c .before .before .loop in
-    (start .pre .0,
-    (subst (Word (sizeOf (start .args .size))) (sym (l .inv .1 .below 0 (omega arith))) (start .pre .1 .0 0), start .pre .1 .1 .0))
+    let l = c .before .before .loop in (
+      start .pre .0,
+      (subst (Word (sizeOf (start .args .size))) (sym (l .inv .1 .below 0 (omega arith))) (start .pre .1 .0 0), start .pre .1 .1 .0),
+    )
 
 slice-write-g-2 : tie.Need-slice-write-g-2 Inv-loop μ-loop
 slice-write-g-2 c = search needs
@@ -100,8 +107,8 @@ returns c =
     let g₀ = start .args .g .now in
     let fits : start .args .m + 2 ≤ length g₀ = search needs in
     let done : l .j ≡ 0 = search needs in
-    let d : FilledDown (raised size (start .args .k) g₀) 0 (start .args .m + 2) 1 g₀ (l .g)
-          = subst (λ (i : ℕ). FilledDown (raised size (start .args .k) g₀) 0 (start .args .m + 2) i g₀ (l .g)) (ap (λ i. i + 1) done) (l .inv .1) in
+    let d : Between (raised size (start .args .k) g₀) 1 (start .args .m + 2) g₀ (l .g)
+    = subst (λ (i : ℕ). Between (raised size (start .args .k) g₀) i (start .args .m + 2) g₀ (l .g)) (ap (λ i. i + 1) done) (l .inv .1) in
     rooted size (start .args .k) (start .args .m) (start .pre .1 .0) fits d
     (c .times-power2 .ensures ∙ ap (λ (a : ℕ). product size a (power size (start .args .k))) (d .below 0 (omega arith)))
 
