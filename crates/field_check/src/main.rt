@@ -5,7 +5,6 @@ ghost use Rattle.finite_field.specs.Field.{sizeOf, bits, Word};
 ghost use Rattle.finite_field.specs.Tables.{Tables};
 use finite_field::tables;
 use libc::STDOUT_FILENO;
-use reed_solomon::field;
 
 // The checksum `sum`, carried on over the products of a with each word.
 fn row(size: u32, powers: &[u16], logs: &[u16], a: u16, sum: u64) -> u64

@@ -22,7 +22,7 @@ use Rattle.finite_field.specs.Field.{WordSize, bits}
 use Rattle.finite_field.specs.Instance.{wordField, word, entry, word-zero}
 use Rattle.reed_solomon.specs.Nearest.{marked, unread}
 use Rattle.reed_solomon.specs.NearestLaws.{places-distinct, places-nonzero}
-use Rattle.reed_solomon.specs.Steps.{
+use Rattle.correction.specs.Steps.{
   ZeroFrom,
   SyndromesOf,
   NearTo,

@@ -15,9 +15,9 @@ use Rattle.finite_field.specs.Field.{WordSize, Word}
 use Rattle.finite_field.specs.Instance.{wordField, word, entry, word-xor}
 use Rattle.reed_solomon.specs.Block.{Words}
 use Rattle.reed_solomon.specs.Nearest.{marked}
-use Rattle.reed_solomon.specs.Steps.{Readable, Blank, readWord, corrected, writtenAt}
+use Rattle.correction.specs.Steps.{Readable, Blank, readWord, corrected, writtenAt}
 use Rattle.reed_solomon.specs.WordLists.{words-tabulate}
-use Rattle.reed_solomon.proofs.Elements.{xor-word}
+use Rattle.correction.proofs.Elements.{xor-word}
 
 pub blank-for : {m n : ℕ} {l : List ℕ} → m ≡ n → Blank n l → Blank m l
 blank-for e b = record { longer = omega (arith, b .longer); zeros = b .zeros }

@@ -1,9 +1,9 @@
 -- Check words by long division (source 000, 7.2.3 and 7.3.2): the remainder of the data polynomial times x^K, divided by the generator
 -- (x + 2^1) .. (x + 2^K). Minus is plus here. A polynomial is the list of its coefficients, the highest first.
 -- Assumes nothing.
-use mathlib.Core.List.{List, [], _∷_}
-use Prim.Native.Nat.{ℕ, zero, suc, _+_}
-use lib.ListN.{length, getD, replicate}
+use mathlib.Core.List.{List, [], _∷_, _++_}
+use Prim.Native.Nat.{ℕ, zero, suc, _+_, _-_}
+use lib.ListN.{length, getD, take, replicate}
 use Rattle.list_laws.specs.Filled.{tabulate}
 use Rattle.finite_field.specs.Xor.{_⊕_}
 use Rattle.finite_field.specs.Field.{WordSize, product, power}
@@ -32,3 +32,7 @@ remainder s g r (w ∷ ws) = remainder s g (divideStep s g r w) ws
 
 unfoldable pub checkWords : WordSize → ℕ → List ℕ → List ℕ
 checkWords s check words = remainder s (generator s check) (replicate check 0) words
+
+-- the block with the check words of its first d words in place of its tail, the words from d on
+abbrev pub withCheckWords : WordSize → ℕ → List ℕ → List ℕ
+withCheckWords s d block = take d block ++ checkWords s (length block - d) (take d block)

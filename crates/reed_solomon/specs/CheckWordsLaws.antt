@@ -34,7 +34,7 @@ use Rattle.finite_field.specs.Instance.{
   word-is-zero,
 }
 use Rattle.reed_solomon.specs.Block.{Words, valueFrom, value, Valid}
-use Rattle.reed_solomon.specs.Steps.{place}
+use Rattle.correction.specs.Steps.{place}
 use Rattle.reed_solomon.specs.WordLists.{words-tabulate, words-cons, words-append, words-first, past-end}
 use Rattle.reed_solomon.specs.Polynomials.{horner-zero, root-value, step-value, carry}
 use Rattle.reed_solomon.specs.FieldView.{value-word, value-horner, value-from-horner, valid-view}
@@ -188,7 +188,7 @@ module _ (s : WordSize) where
   zero-words (suc n) zero = refl
   zero-words (suc n) (suc i) = zero-words n i
 
-  replicate-words : (n : ℕ) → Words s (replicate n 0)
+  pub replicate-words : (n : ℕ) → Words s (replicate n 0)
   replicate-words n i = rw (zero-words n i) (pow-pos (bits s))
 
   pub length-check-words : (check : ℕ) (ws : List ℕ) → length (checkWords s check ws) ≡ check

@@ -36,7 +36,7 @@ use Rattle.finite_field.specs.Instance.{
 use Rattle.reed_solomon.specs.Block.{Words, valueFrom, value, Valid}
 use Rattle.reed_solomon.specs.Nearest.{marked, unread, differ, Near}
 use Rattle.reed_solomon.specs.Polynomials.{horner-none, horner-step, from-zero}
-use Rattle.reed_solomon.specs.Steps.{Readable, place, readWord}
+use Rattle.correction.specs.Steps.{Readable, place, readWord}
 
 -- two tests that pass together are the same
 same-test : (a b : Bool) → (T a → T b) → (T b → T a) → a ≡ b

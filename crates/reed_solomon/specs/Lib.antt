@@ -1,7 +1,6 @@
 pub mod Block
 pub mod Nearest
 pub mod Correct
-pub mod Steps
 pub mod SearchLaws
 pub mod WordLists
 pub mod Polynomials

@@ -11,15 +11,8 @@ use lib.Dec.{eqb, leb}
 use lib.ListN.{length, getD}
 use Rattle.list_laws.specs.Range.{count, all}
 use Rattle.finite_field.specs.Field.{WordSize, bits, power}
+pub use Rattle.correction.specs.Received.{marked, unread}
 use Rattle.reed_solomon.specs.Block.{value, Valid}
-
--- word i is marked unread
-abbrev pub marked : List ℕ → ℕ → Bool
-marked marks i = eqb (getD marks i 0) 1
-
--- e: the words marked unread
-abbrev pub unread : List ℕ → ℕ
-unread marks = count (length marks) (marked marks)
 
 -- r: the words not marked that are unlike the block's
 abbrev pub differ : List ℕ → List ℕ → List ℕ → ℕ

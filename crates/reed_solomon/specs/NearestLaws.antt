@@ -21,7 +21,7 @@ use Rattle.finite_field.specs.Field.{WordSize, bits, power}
 use Rattle.finite_field.specs.Instance.{wordField, entry, x, word-injective, powers-distinct, x-nonzero}
 use Rattle.reed_solomon.specs.Block.{Words, value}
 use Rattle.reed_solomon.specs.Nearest.{marked, unread, differ, Near, isNear, nearest}
-use Rattle.reed_solomon.specs.Steps.{Readable, place, readWord, SyndromesOf, NearTo, Proposed, corrected}
+use Rattle.correction.specs.Steps.{Readable, place, readWord, SyndromesOf, NearTo, Proposed, corrected}
 use Rattle.reed_solomon.specs.SearchLaws.{Passing, search-some, search-none}
 use Rattle.reed_solomon.specs.WordLists.{words-below}
 use Rattle.reed_solomon.specs.FieldView.{near-field, field-near}

@@ -8,11 +8,11 @@ ghost use Rattle.finite_field.specs.Tables.{Tables};
 ghost use Rattle.reed_solomon.specs.Block.{Words};
 ghost use Rattle.reed_solomon.specs.Nearest.{nearest, unread};
 ghost use Rattle.reed_solomon.specs.Correct as answers;
-ghost use Rattle.reed_solomon.specs.Steps as steps;
-use crate::accept;
-use crate::locator;
-use crate::syndromes;
-use crate::values;
+ghost use Rattle.correction.specs.Steps as steps;
+use correction::accept;
+use correction::locator;
+use correction::syndromes;
+use correction::values;
 
 // Proposes corrections: every block near to the received one is it with them. The work slices come as zeros.
 fn propose(

@@ -1,14 +1,10 @@
-// Reed–Solomon coding of blocks of words (document 01, "Words and checks"): the corrector, and the field's arithmetic on lent tables.
+// Reed–Solomon coding of blocks of words (document 01, "Words and checks"): check words, and the corrector.
 ghost use mathlib.Core.Path.{_≡_};
 ghost use Rattle.reed_solomon.specs.Correct.{correctOf};
 use finite_field::tables;
 
-pub mod accept;
+pub mod check_words;
 pub mod corrector;
-pub mod field;
-pub mod locator;
-pub mod syndromes;
-pub mod values;
 
 // The nearest valid block in `corrected` and 0, or a refusal: 31, 32, 33 or 34, with `corrected` untouched.
 pub fn correct(

@@ -7,7 +7,7 @@ use lib.ListN.{length}
 use Rattle.finite_field.specs.Field.{sizeOf}
 use Rattle.reed_solomon.specs.Nearest.{nearest}
 use Rattle.reed_solomon.specs.Correct.{lawfulWords, answer, judgeOf}
-use Rattle.reed_solomon.specs.Steps.{Lawful}
+use Rattle.correction.specs.Steps.{Lawful}
 use Rattle.reed_solomon.proofs.Judging.{Counts, as-answer, judge-32, judge-33, judge-answer, lawful}
 use Rattle.reed_solomon.proofs.corrector.examine.Statement.{statement}
 use Rattle.reed_solomon.proofs.corrector.examine.Tie as tie

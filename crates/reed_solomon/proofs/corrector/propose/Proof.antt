@@ -7,7 +7,7 @@ use native.Mathlib.Omega.{arith}
 use lib.ListN.{length, getD}
 use Rattle.list_laws.specs.Range.{one-most, count-most}
 use Rattle.finite_field.specs.Field.{sizeOf, Word}
-use Rattle.reed_solomon.specs.Steps.{takenAt}
+use Rattle.correction.specs.Steps.{takenAt}
 use Rattle.reed_solomon.proofs.Proposing.{copied, proposed}
 use Rattle.reed_solomon.proofs.corrector.propose.Statement.{statement}
 use Rattle.reed_solomon.proofs.corrector.propose.Tie as tie

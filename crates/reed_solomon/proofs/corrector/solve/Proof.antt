@@ -13,7 +13,7 @@ use Rattle.finite_field.specs.Field.{sizeOf}
 use Rattle.reed_solomon.specs.Correct.{answer}
 use Rattle.reed_solomon.specs.Nearest.{nearest}
 use Rattle.reed_solomon.specs.NearestLaws.{too-many-marks, answer-found, answer-none}
-use Rattle.reed_solomon.specs.Steps.{SyndromesOf, readWord, writtenAt}
+use Rattle.correction.specs.Steps.{SyndromesOf, readWord, writtenAt}
 use Rattle.reed_solomon.proofs.Solving.{blank-for, written-words, written-entry}
 use Rattle.reed_solomon.proofs.corrector.solve.Statement.{statement}
 use Rattle.reed_solomon.proofs.corrector.solve.Tie as tie

@@ -10,7 +10,7 @@ use native.Mathlib.Omega.{arith}
 use lib.ListN.{length, getD}
 use Rattle.list_laws.specs.Filled.{tabulate, filled, filled-none, filled-step, filled-all, length-filled}
 use Rattle.finite_field.specs.Xor.{_⊕_}
-use Rattle.reed_solomon.specs.Steps.{writtenAt}
+use Rattle.correction.specs.Steps.{writtenAt}
 use Rattle.reed_solomon.proofs.corrector.write.Statement.{statement}
 use Rattle.reed_solomon.proofs.corrector.write.Tie as tie
 
