@@ -2,4 +2,5 @@
 // stream, bit stuffing, and the reader's items.
 pub mod codes;
 pub mod items;
+pub mod reading;
 pub mod stuffing;
