@@ -1,2 +1,3 @@
 pub mod CodeTables
+pub mod Turns
 pub mod WordParts

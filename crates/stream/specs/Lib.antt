@@ -14,6 +14,7 @@ pub mod LastWord
 pub mod StreamLaws
 pub mod StreamLength
 pub mod Writing
+pub mod Encoding
 pub mod ItemLaws
 pub mod ReadingLaws
 pub mod RoundTrip

@@ -10,6 +10,7 @@ use lib.Seq.{sets}
 use lib.Pow.{shr-shr}
 use Rattle.stream.specs.declared.stuffing.Put.{Put}
 use Rattle.stream.specs.declared.stuffing.Put.the-variants.{Part, Word}
+use Rattle.stream.specs.declared.stuffing.Out.{Out}
 use Rattle.stream.specs.Bits.{bits, bits-snoc}
 use Rattle.stream.specs.Stuffing.{put, after, fill, finish, stuffFrom, stuff}
 use Rattle.stream.specs.PutLaws.{State, Fits, put-fits, part-state, part-grows, start}
@@ -22,6 +23,14 @@ pub record Coded (h : ℕ) (t : List ℕ) (n k v : ℕ) (a : List ℕ) (n′ k�
   pub count : n′ ≡ n + length words
   pub stored : a′ ≡ sets a n words
   pub says : (rest : List ℕ) → words ++ stuffFrom h k′ v′ rest ≡ stuffFrom h k v (t ++ rest)
+
+-- the writer can go on from o, in words of h + 1 bits: `most` words at most are counted
+abbrev pub Ready : ℕ → ℕ → Out → Type 0
+Ready h most o = (1 ≤ h) × (h ≤ 11) × (o .count ≤ most) × State h (o .bits) (o .value)
+
+-- the bits t are written, from o with the buffer a to o′ with a′
+abbrev pub Wrote : ℕ → List ℕ → Out → List ℕ → Out → List ℕ → Type 0
+Wrote h t o a o′ a′ = Coded h t (o .count) (o .bits) (o .value) a (o′ .count) (o′ .bits) (o′ .value) a′
 
 sets-append : (ws us a : List ℕ) (n : ℕ) → sets (sets a n ws) (n + length ws) us ≡ sets a n (ws ++ us)
 sets-append [] us a n = ap (λ k. sets a k us) (add-zero n)

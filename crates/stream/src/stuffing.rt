@@ -5,7 +5,7 @@ ghost use lib.ListN.{set};
 ghost use Rattle.stream.specs.Bits.{bits};
 ghost use Rattle.stream.specs.Stuffing.{put};
 ghost use Rattle.stream.specs.PutLaws.{State};
-ghost use Rattle.stream.specs.Writing.{Coded, Ending};
+ghost use Rattle.stream.specs.Writing.{Ready, Wrote, Ending};
 
 // The word after one more bit: its bits so far and what they say, or the whole word.
 pub enum Put {
@@ -53,8 +53,8 @@ fn store(words: &mut [u16], at: usize, word: usize)
 
 // The `width` bits of a code, the highest first. A whole word is stored and counted.
 pub fn put_code(words: &mut [u16], out: Out, h: usize, code: usize, width: usize) -> Out
-    requires { ⌜ (1 ≤ h) × (h ≤ 11) × (width ≤ 14) × (out .count ≤ 4000000) ⌝ ∗ ⌜ State h (out .bits) (out .value) ⌝ }
-    ensures { λ r. ⌜ Coded h (bits width code) (out .count) (out .bits) (out .value) (now (words .entry)) (r .count) (r .bits) (r .value) (now (words .exit)) ⌝ }
+    requires { ⌜ Ready h 4000000 out ⌝ ∗ ⌜ width ≤ 14 ⌝ }
+    ensures { λ r. ⌜ Wrote h (bits width code) out (now (words .entry)) r (now (words .exit)) ⌝ }
 {
     let mut n = out.count;
     let mut k = out.bits;
@@ -84,7 +84,7 @@ pub fn put_code(words: &mut [u16], out: Out, h: usize, code: usize, width: usize
 
 // The last word, filled with 1s; how many words there are.
 pub fn finish(words: &mut [u16], out: Out, h: usize) -> usize
-    requires { ⌜ (1 ≤ h) × (h ≤ 11) × (out .count ≤ 4000000) ⌝ ∗ ⌜ State h (out .bits) (out .value) ⌝ }
+    requires { ⌜ Ready h 4000000 out ⌝ }
     ensures { λ r. ⌜ Ending h (out .count) (out .bits) (out .value) (now (words .entry)) r 0 0 (now (words .exit)) ⌝ }
 {
     let mut n = out.count;

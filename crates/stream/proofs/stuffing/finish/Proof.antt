@@ -28,12 +28,12 @@ one-more h k v k′ v′ l s e =
     part-grows k v 1 k′ v′ (f .1)
 
 loop-holds : tie.Need-loop-holds Inv-loop μ-loop
-loop-holds c = (omega arith, refl, ending-none (c .before .pre .1))
+loop-holds c = (omega arith, refl, ending-none (c .before .pre .3))
 
 put-bit-requires : tie.Need-put-bit-requires Inv-loop μ-loop
 put-bit-requires c κs =
     let s = c .before .before .before in
-    ((s .pre .0 .0, s .pre .0 .1), (c .before .loop .inv .2 .state, omega arith))
+    ((s .pre .0, s .pre .1), (c .before .loop .inv .2 .state, omega arith))
 
 enum-known-bits : tie.Need-enum-known-bits Inv-loop μ-loop
 enum-known-bits c = search needs
@@ -43,16 +43,18 @@ loop-less c =
     let l = c .before .before .before .before .before in
     let s = l .before .before in
     let i = l .loop .inv in
-    omega (arith, i .2 .state .few, one-more (s .args .h) (l .loop .k) (l .loop .v) (c .before .bits .given .0 .0) (c .before .bits .given .0 .1 .0) (s .pre .0 .0) (i .2 .state) (cc))
+    let p = c .before .bits .given .0 in
+    omega (arith, i .2 .state .few, one-more (s .args .h) (l .loop .k) (l .loop .v) (p .0) (p .1 .0) (s .pre .0) (i .2 .state) (cc))
 
 loop-again : tie.Need-loop-again Inv-loop μ-loop
 loop-again c =
     let l = c .before .before .before .before .before in
     let s = l .before .before in
-    let i = l .loop .inv in (
-      omega (arith, one-more (s .args .h) (l .loop .k) (l .loop .v) (c .before .bits .given .0 .0) (c .before .bits .given .0 .1 .0) (s .pre .0 .0) (i .2 .state) (cc)),
+    let i = l .loop .inv in
+    let p = c .before .bits .given .0 in (
+      omega (arith, one-more (s .args .h) (l .loop .k) (l .loop .v) (p .0) (p .1 .0) (s .pre .0) (i .2 .state) (cc)),
       i .1,
-      ending-part (s .pre .0 .0) (i .2) (omega arith) (cc),
+      ending-part (s .pre .0) (i .2) (omega arith) (cc),
     )
 
 enum-known-x : tie.Need-enum-known-x Inv-loop μ-loop
@@ -62,9 +64,10 @@ store-requires : tie.Need-store-requires Inv-loop μ-loop
 store-requires c κs =
     let l = c .before .before .before .before .before .before in
     let s = l .before .before in
+    let x = c .before .before .x .given .0 .0 in
     omega (
       arith,
-      word-below (s .args .h) (l .loop .k) (l .loop .v) 1 (c .before .before .x .given .0 .0) (s .pre .0 .0) (l .loop .inv .2 .state) (omega arith) (cc),
+      word-below (s .args .h) (l .loop .k) (l .loop .v) 1 x (s .pre .0) (l .loop .inv .2 .state) (omega arith) (cc),
       pow-mono {i = suc (s .args .h)} {j = 12} (omega arith),
     )
 
@@ -83,7 +86,7 @@ loop-again-2 c =
     let stored = c .before .before .store .ensures in (
       omega arith,
       ap length stored ∙ simp length-set (i .1),
-      ending-word (s .pre .0 .0) (i .2) (omega arith) (cc) stored,
+      ending-word (s .pre .0) (i .2) (omega arith) (cc) stored,
     )
 
 same-length : tie.Need-same-length Inv-loop μ-loop

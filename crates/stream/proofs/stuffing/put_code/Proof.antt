@@ -1,7 +1,7 @@
 -- The bits of the code above the lowest i are written.
 -- Assumes nothing.
 use borrow.Author.Needs.{needs}
-use mathlib.Core.Path.{_≡_, refl, ap, _∙_, subst}
+use mathlib.Core.Path.{_≡_, refl, ap, _∙_}
 use Prim.Native.Nat.{suc, _+_, _-_, _/_, _%_, _^_, _≤_}
 use native.Mathlib.Omega.{arith}
 use lib.ListN.{length, length-set}
@@ -12,7 +12,9 @@ use Rattle.stream.proofs.stuffing.put_code.Statement.{statement}
 use Rattle.stream.proofs.stuffing.put_code.Tie as tie
 
 abbrev Inv-loop : tie.InvT-loop
-Inv-loop words₀ h code width n₀ k₀ v₀ i₀ words n k v i = (i ≤ width) × (n + i ≤ n₀ + width) × (length words ≡ length words₀) × Sent h width code n₀ k₀ v₀ words₀ i n k v words
+Inv-loop words₀ h code width n₀ k₀ v₀ i₀ words n k v i =
+    (i ≤ width) × (n + i ≤ n₀ + width) × (length words ≡ length words₀)
+    × Sent h width code n₀ k₀ v₀ words₀ i n k v words
 
 abbrev μ-loop : tie.MeasureT-loop
 μ-loop words₀ h code width n₀ k₀ v₀ i₀ words n k v i = i
@@ -21,7 +23,8 @@ loop-holds : tie.Need-loop-holds Inv-loop μ-loop
 loop-holds c =
     let s = c .before in
     let a = s .args in
-    (omega arith, omega arith, refl, sent-none (a .h) (a .width) (a .code) (a .out .count) (a .out .bits) (a .out .value) (a .words .now) (s .pre .1))
+    let o = a .out in
+    (omega arith, omega arith, refl, sent-none (a .h) (a .width) (a .code) (o .count) (o .bits) (o .value) (a .words .now) (s .pre .0 .3))
 
 sub-i : tie.Need-sub-i Inv-loop μ-loop
 sub-i c = search needs
@@ -58,9 +61,11 @@ store-requires : tie.Need-store-requires Inv-loop μ-loop
 store-requires c κs =
     let l = c .before .before .before .before .before .before in
     let s = l .before .before in
+    let bit = s .args .code / 2 ^ (l .loop .i - 1) % 2 in
+    let x = c .before .before .x .given .0 .0 in
     omega (
       arith,
-      word-below (s .args .h) (l .loop .k) (l .loop .v) (s .args .code / 2 ^ (l .loop .i - 1) % 2) (c .before .before .x .given .0 .0) (s .pre .0 .0) (l .loop .inv .3 .state) (omega arith) (cc),
+      word-below (s .args .h) (l .loop .k) (l .loop .v) bit x (s .pre .0 .0) (l .loop .inv .3 .state) (omega arith) (cc),
       pow-mono {i = suc (s .args .h)} {j = 12} (omega arith),
     )
 
@@ -89,8 +94,8 @@ returns : tie.Need-returns Inv-loop μ-loop
 returns c =
     let a = c .before .before .before .args in
     let z = c .before .loop in
-    let sent = subst (λ i. Sent (a .h) (a .width) (a .code) (a .out .count) (a .out .bits) (a .out .value) (a .words .now) i (z .n) (z .k) (z .v) (z .words)) (let e : z .i ≡ 0 = omega arith in e) (z .inv .3) in
-    sent-all _ _ _ _ _ _ _ sent
+    let e : z .i ≡ 0 = omega arith in
+    sent-all (a .h) (a .width) (a .code) _ _ _ _ (rw e at (z .inv .3))
 
 pub put-code-spec : {M : Type 1} → statement M
 put-code-spec =
