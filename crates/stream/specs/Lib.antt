@@ -21,3 +21,4 @@ pub mod RoundTrip
 pub mod Places
 pub mod Scan
 pub mod Examples
+pub mod Written

@@ -3,5 +3,6 @@
 pub mod codes;
 pub mod encoding;
 pub mod items;
+pub mod message;
 pub mod reading;
 pub mod stuffing;

@@ -30,7 +30,6 @@ rem-result c = let k = c .args .k in omega (arith, one-shl k (omega arith), pow-
 
 returns : tie.Need-returns
 returns c = let a = c .args in ap₂ (λ n m. a .word / 2 ^ (n - (a .bit + a .k)) % m) (add-one (a .h)) (one-shl (a .k) (omega arith))
-
 pub word-part-spec : {M : Type 1} → statement M
 word-part-spec =
     tie.close
