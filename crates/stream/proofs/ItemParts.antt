@@ -1,8 +1,8 @@
 -- Items from the bits that the reader takes: a field of the bits l from bit o on, where r is what follows bit o.
 -- Assumes nothing.
-use mathlib.Core.Path.{_≡_, sym, ap, ap₂, _∙_, subst}
+use mathlib.Core.Path.{_≡_, sym, ap, ap₂, _∙_}
 use mathlib.Core.List.{List}
-use Prim.Native.Nat.{ℕ, _+_, _*_, _^_, _≤_, _<_}
+use Prim.Native.Nat.{ℕ, _+_, _*_, _≤_, _<_}
 use native.Mathlib.Omega.{arith}
 use lib.ListN.{length, take, drop}
 use lib.Pow.{pow-mono}
@@ -10,7 +10,6 @@ use lib.Seq.{drop-drop}
 use Rattle.stream.specs.declared.codes.Entry.{Entry}
 use Rattle.stream.specs.declared.codes.Entry.the-variants.{Shift}
 use Rattle.stream.specs.declared.items.Item.the-variants.{Raw}
-use Rattle.stream.specs.declared.items.Found.{Found}
 use Rattle.stream.specs.declared.items.Found.the-variants.{Whole}
 use Rattle.stream.specs.Below.{Bits}
 use Rattle.stream.specs.Bits.{value}

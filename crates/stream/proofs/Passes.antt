@@ -2,7 +2,7 @@
 -- Assumes nothing.
 use mathlib.Core.Path.{_≡_, refl, sym, ap, _∙_}
 use mathlib.Core.Bool.{true, false}
-use mathlib.Core.List.{List, _++_}
+use mathlib.Core.List.{List}
 use Prim.Native.Nat.{ℕ, _+_, _-_, _≤_, _<_}
 use native.Mathlib.Omega.{arith}
 use lib.ListN.{length, drop, length-drop}
@@ -13,9 +13,9 @@ use Rattle.stream.specs.declared.items.Found.{Found}
 use Rattle.stream.specs.declared.items.Found.the-variants.{Whole, Fault}
 use Rattle.stream.specs.declared.items.Verdict.the-variants.{Message, Refused}
 use Rattle.stream.specs.Stuffing.{unstuffFrom}
-use Rattle.stream.specs.Items.{adds, yields, extra, setAfter, stops, itemAt, readItems, refused, verdictOf}
+use Rattle.stream.specs.Items.{adds, yields, extra, setAfter, stops, itemAt, readItems, verdictOf}
 use Rattle.stream.specs.Places.{rest, Stands}
-use Rattle.stream.specs.Scan.{Scanned, Counted, counted-more, length-adds, scan-item, scan-fault, scan-stop}
+use Rattle.stream.specs.Scan.{Counted, counted-more, length-adds, scan-item, scan-fault, scan-stop}
 use Rattle.stream.proofs.items.Found.{the-type}
 use Rattle.stream.proofs.WordParts.{unstuff-is-bits}
 

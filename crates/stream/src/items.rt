@@ -6,7 +6,6 @@ ghost use lib.ListN.{length, drop};
 ghost use Rattle.stream.specs.declared.codes.Entry.the-variants.{Shift};
 ghost use Rattle.stream.specs.Items as spec;
 ghost use Rattle.stream.specs.Places.{rest};
-
 use crate::codes;
 use crate::reading;
 use crate::reading::Place;

@@ -10,7 +10,6 @@ ghost use Rattle.stream.specs.Items as spec;
 ghost use Rattle.stream.specs.Places.{rest};
 ghost use Rattle.stream.specs.Stuffing.{flat, unstuff};
 ghost use Rattle.stream.specs.Written.{Room, written};
-
 use crate::items;
 use crate::items::Found;
 use crate::items::Item;

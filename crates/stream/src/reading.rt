@@ -88,7 +88,13 @@ pub fn take_bits(words: &[u16], h: usize, place: Place, n: usize) -> Bits
             left -= k;
         }
     }
-    Bits { value: value, next: Place { word: word, bit: bit } }
+    Bits {
+        value: value,
+        next: Place {
+            word: word,
+            bit: bit,
+        },
+    }
 }
 
 // The place n bits on.
@@ -102,7 +108,10 @@ pub fn forward(words: &[u16], h: usize, place: Place, n: usize) -> Place
     while word < words.len() {
         let size = word_length(words[word], h);
         if bit < size {
-            return Place { word: word, bit: bit };
+            return Place {
+                word: word,
+                bit: bit,
+            };
         }
         bit -= size;
         word += 1;

@@ -47,6 +47,7 @@ returns-6 c = search needs
 
 returns-7 : tie.Need-returns-7
 returns-7 c = search needs
+
 pub after-shift-spec : {M : Type 1} → statement M
 after-shift-spec =
     tie.close

@@ -1,7 +1,7 @@
 -- The short count is taken, and the long one where it is 0.
 -- Assumes nothing.
 use borrow.Author.Needs.{needs}
-use mathlib.Core.Path.{_≡_, sym, _∙_}
+use mathlib.Core.Path.{sym, _∙_}
 use Prim.Native.Nat.{_+_, _-_}
 use native.Mathlib.Omega.{arith}
 use Rattle.stream.specs.ItemLaws.{count-cut, short-by, long-cut, long-by}
@@ -89,6 +89,7 @@ returns-4 c =
     ∙ sym
     (long-by l (a .used) (v .result .value) (omega arith) (field-says l (a .used) e (t .ensures) ∙ c .before .before .before .before .if2 .left)
     (field-says l (a .used + 5) (further l (a .used) e (t .ensures)) (v .ensures)))
+
 pub count-item-spec : {M : Type 1} → statement M
 count-item-spec =
     tie.close

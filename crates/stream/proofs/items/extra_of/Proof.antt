@@ -33,6 +33,7 @@ returns-3 c = search needs
 
 returns-4 : tie.Need-returns-4
 returns-4 c = sym (ap extra (c .before .item .given .1))
+
 pub extra-of-spec : {M : Type 1} → statement M
 extra-of-spec =
     tie.close

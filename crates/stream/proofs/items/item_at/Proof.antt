@@ -1,7 +1,7 @@
 -- The code is taken and looked up, and its entry tells the item.
 -- Assumes nothing.
 use borrow.Author.Needs.{needs}
-use mathlib.Core.Path.{_≡_, refl, sym, _∙_}
+use mathlib.Core.Path.{refl, sym, _∙_}
 use native.Mathlib.Omega.{arith}
 use Rattle.stream.specs.declared.codes.Entry.the-variants.{Char, Pair, Latch, Shift, Binary, Flag, Missing}
 use Rattle.stream.specs.CodeLaws.{width-bounds, shift-set}
@@ -57,7 +57,8 @@ shift-item-requires c κs =
     let w = c .before .before .before .before .before .before .width-of in
     let t = c .before .before .before .before .take-bits in
     let v = t .result .value in
-    let below = code-below (a .set) (w .result) (w .ensures) (rest-is-bits (a .h) (a .words .now) (a .place .word) (a .place .bit)) (t .ensures) in
+    let below = code-below (a .set) (w .result) (w .ensures) (rest-is-bits (a .h) (a .words .now) (a .place .word) (a .place .bit))
+    (t .ensures) in
     let near = shift-set (a .set) v (c .before .t2 .given .0 .0) (start .pre .1 .0) below (cc) in
     (start .pre .0, (omega (arith, w .ensures, width-bounds (a .set)), (near, omega (arith, taken-left (t .ensures)))))
 
@@ -83,7 +84,9 @@ returns-2 c =
     let start = c .before .before .before .before .before .before .before .before in
     let a = start .args in
     let r = rest (a .h) (a .words .now) (a .place .word) (a .place .bit) in
-    item-found r (a .set) (c .before .before .before .before .before .before .width-of .result) (c .before .before .before .before .take-bits .result .value) (Char (c .before .b .given .0 .0)) (c .before .before .before .before .before .before .width-of .ensures) (omega arith)
+    item-found r (a .set) (c .before .before .before .before .before .before .width-of .result)
+    (c .before .before .before .before .take-bits .result .value) (Char (c .before .b .given .0 .0))
+    (c .before .before .before .before .before .before .width-of .ensures) (omega arith)
     (field-says r 0 refl (c .before .before .before .before .take-bits .ensures)) (cc)
 
 returns-3 : tie.Need-returns-3
@@ -92,7 +95,9 @@ returns-3 c =
     let start = c .before .before .before .before .before .before .before .before in
     let a = start .args in
     let r = rest (a .h) (a .words .now) (a .place .word) (a .place .bit) in
-    item-found r (a .set) (c .before .before .before .before .before .before .width-of .result) (c .before .before .before .before .take-bits .result .value) (Pair (c .before .b2 .given .0 .0) (c .before .b2 .given .0 .1 .0)) (c .before .before .before .before .before .before .width-of .ensures) (omega arith)
+    item-found r (a .set) (c .before .before .before .before .before .before .width-of .result)
+    (c .before .before .before .before .take-bits .result .value) (Pair (c .before .b2 .given .0 .0) (c .before .b2 .given .0 .1 .0))
+    (c .before .before .before .before .before .before .width-of .ensures) (omega arith)
     (field-says r 0 refl (c .before .before .before .before .take-bits .ensures)) (cc)
 
 returns-4 : tie.Need-returns-4
@@ -101,7 +106,9 @@ returns-4 c =
     let start = c .before .before .before .before .before .before .before .before in
     let a = start .args in
     let r = rest (a .h) (a .words .now) (a .place .word) (a .place .bit) in
-    item-found r (a .set) (c .before .before .before .before .before .before .width-of .result) (c .before .before .before .before .take-bits .result .value) (Latch (c .before .t .given .0 .0)) (c .before .before .before .before .before .before .width-of .ensures) (omega arith)
+    item-found r (a .set) (c .before .before .before .before .before .before .width-of .result)
+    (c .before .before .before .before .take-bits .result .value) (Latch (c .before .t .given .0 .0))
+    (c .before .before .before .before .before .before .width-of .ensures) (omega arith)
     (field-says r 0 refl (c .before .before .before .before .take-bits .ensures)) (cc)
 
 returns-5 : tie.Need-returns-5
@@ -110,7 +117,9 @@ returns-5 c =
     let a = start .args in
     let r = rest (a .h) (a .words .now) (a .place .word) (a .place .bit) in
     c .shift-item .ensures r (c .before .before .before .before .before .take-bits .ensures .left) (omega arith)
-    ∙ item-found r (a .set) (c .before .before .before .before .before .before .before .width-of .result) (c .before .before .before .before .before .take-bits .result .value) (Shift (c .before .before .t2 .given .0 .0)) (c .before .before .before .before .before .before .before .width-of .ensures) (omega arith)
+    ∙ item-found r (a .set) (c .before .before .before .before .before .before .before .width-of .result)
+    (c .before .before .before .before .before .take-bits .result .value) (Shift (c .before .before .t2 .given .0 .0))
+    (c .before .before .before .before .before .before .before .width-of .ensures) (omega arith)
     (field-says r 0 refl (c .before .before .before .before .before .take-bits .ensures)) (cc)
 
 returns-6 : tie.Need-returns-6
@@ -120,7 +129,9 @@ returns-6 c =
     let a = start .args in
     let r = rest (a .h) (a .words .now) (a .place .word) (a .place .bit) in
     c .count-item .ensures r (c .before .before .before .before .take-bits .ensures .left) (omega arith)
-    ∙ item-found r (a .set) (c .before .before .before .before .before .before .width-of .result) (c .before .before .before .before .take-bits .result .value) Binary (c .before .before .before .before .before .before .width-of .ensures) (omega arith)
+    ∙ item-found r (a .set) (c .before .before .before .before .before .before .width-of .result)
+    (c .before .before .before .before .take-bits .result .value) Binary (c .before .before .before .before .before .before .width-of .ensures)
+    (omega arith)
     (field-says r 0 refl (c .before .before .before .before .take-bits .ensures)) (cc)
 
 returns-7 : tie.Need-returns-7
@@ -129,7 +140,8 @@ returns-7 c =
     let start = c .before .before .before .before .before .before .before in
     let a = start .args in
     let r = rest (a .h) (a .words .now) (a .place .word) (a .place .bit) in
-    item-found r (a .set) (c .before .before .before .before .before .width-of .result) (c .before .before .before .take-bits .result .value) Flag (c .before .before .before .before .before .width-of .ensures) (omega arith)
+    item-found r (a .set) (c .before .before .before .before .before .width-of .result) (c .before .before .before .take-bits .result .value)
+    Flag (c .before .before .before .before .before .width-of .ensures) (omega arith)
     (field-says r 0 refl (c .before .before .before .take-bits .ensures)) (cc)
 
 returns-8 : tie.Need-returns-8
@@ -138,8 +150,10 @@ returns-8 c =
     let start = c .before .before .before .before .before .before .before in
     let a = start .args in
     let r = rest (a .h) (a .words .now) (a .place .word) (a .place .bit) in
-    item-found r (a .set) (c .before .before .before .before .before .width-of .result) (c .before .before .before .take-bits .result .value) Missing (c .before .before .before .before .before .width-of .ensures) (omega arith)
+    item-found r (a .set) (c .before .before .before .before .before .width-of .result) (c .before .before .before .take-bits .result .value)
+    Missing (c .before .before .before .before .before .width-of .ensures) (omega arith)
     (field-says r 0 refl (c .before .before .before .take-bits .ensures)) (cc)
+
 pub item-at-spec : {M : Type 1} → statement M
 item-at-spec =
     tie.close

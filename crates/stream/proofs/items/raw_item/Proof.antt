@@ -15,5 +15,6 @@ returns c = sym (whole _ _ _ (omega arith))
 
 returns-2 : tie.Need-returns-2
 returns-2 c = sym (cut-short _ _ _ (omega arith))
+
 pub raw-item-spec : {M : Type 1} → statement M
 raw-item-spec = tie.close (tie.spec mul-if1 returns returns-2)

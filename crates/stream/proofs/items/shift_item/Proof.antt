@@ -58,6 +58,7 @@ returns-2 c =
     c .after-shift .ensures
     ∙ ap (λ e. shifted e (a .used + w .result)) (c .before .entry-at .ensures)
     ∙ shift-found l (a .used) (a .set) (w .result) (t .result .value) (w .ensures) (omega arith) (field-says l (a .used) e (t .ensures))
+
 pub shift-item-spec : {M : Type 1} → statement M
 shift-item-spec =
     tie.close

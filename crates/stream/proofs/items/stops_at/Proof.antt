@@ -1,9 +1,8 @@
 -- The bits left are 1s if the number that they say is the largest.
 -- Assumes nothing.
 use borrow.Author.Needs.{needs}
-use mathlib.Core.Path.{_≡_, sym, ap, ap₂, _∙_}
+use mathlib.Core.Path.{sym, ap, ap₂, _∙_}
 use Prim.Native.Nat.{_-_, _^_, _≤_}
-use native.Mathlib.Nat.{le-refl}
 use native.Mathlib.Omega.{arith}
 use lib.Dec.{eqb}
 use lib.ListN.{length}
@@ -45,5 +44,6 @@ returns-2 c =
     let said = t .says ∙ ap (value 0) (take-all (a .left) r (let h : length r ≤ a .left = omega arith in h)) in
     let most = ap (λ n. n - 1) (one-shl (a .left) (omega arith)) ∙ ap (λ n. 2 ^ n - 1) (start .pre .1 .1) in
     ap₂ eqb said most ∙ sym (stops-by-value (a .word-size) r (rest-is-bits (a .h) (a .words .now) (a .place .word) (a .place .bit)) (omega arith))
+
 pub stops-at-spec : {M : Type 1} → statement M
 stops-at-spec = tie.close (tie.spec returns take-bits-requires shl-result sub-result returns-2)

@@ -19,5 +19,6 @@ returns c = λ x e. let tag = ap (tagOf the-type) e in omega (arith, c .before .
 
 returns-2 : tie.Need-returns-2
 returns-2 c = λ x e. cc
+
 pub fault-of-spec : {M : Type 1} → statement M
 fault-of-spec = tie.close (tie.spec enum-told enum-known-found returns returns-2)

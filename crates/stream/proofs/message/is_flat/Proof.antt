@@ -2,7 +2,7 @@
 -- Assumes nothing.
 use borrow.Author.Needs.{needs}
 use borrow.Author.Tests.{eq-eqb, ne-eqb}
-use mathlib.Core.Path.{_≡_, sym, ap, ap₂, _∙_}
+use mathlib.Core.Path.{sym, ap, _∙_}
 use mathlib.Core.Bool.{_||_}
 use Prim.Native.Nat.{_-_, _^_}
 use native.Mathlib.Omega.{arith}
@@ -33,5 +33,6 @@ returns-2 c =
     let a = c .before .args in
     ap (λ n. eqb (a .word) (n - 1)) (one-shl (a .word-size) (omega arith))
     ∙ sym (ap (λ t. t || eqb (a .word) (2 ^ a .word-size - 1)) (ne-eqb (a .word) 0 (c .if1 .left)))
+
 pub is-flat-spec : {M : Type 1} → statement M
 is-flat-spec = tie.close (tie.spec returns shl-result sub-result returns-2)

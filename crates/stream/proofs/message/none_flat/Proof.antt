@@ -50,6 +50,7 @@ returns-2 : tie.Need-returns-2 Inv-loop μ-loop
 returns-2 c =
     let a = c .before .before .before .args in
     sym (true-of _ (all-of (length (a .words .now)) _ (λ i g. holds (ap not (c .before .loop .inv .1 i (omega arith))))))
+
 pub none-flat-spec : {M : Type 1} → statement M
 none-flat-spec =
     tie.close

@@ -2,11 +2,10 @@
 -- Assumes nothing.
 use borrow.Author.Needs.{needs}
 use borrow.Author.Tests.{not-true, not-false}
-use mathlib.Core.Path.{_≡_, refl, sym, _∙_}
+use mathlib.Core.Path.{refl, sym, _∙_}
 use mathlib.Core.List.{[]}
 use Prim.Native.Nat.{_-_, _≤_}
 use native.Mathlib.Omega.{arith}
-use lib.ListN.{length}
 use Rattle.stream.specs.Items.{yields, extra, setAfter}
 use Rattle.stream.specs.Places.{Stands, stands-start}
 use Rattle.stream.specs.Scan.{Counted, scan-start}
@@ -32,8 +31,7 @@ loop-holds : tie.Need-loop-holds Inv-loop μ-loop
 loop-holds c =
     let a = c .before .before .args in
     let h = a .word-size - 1 in
-    let l = unstuffFrom h (a .words .now) in
-    (
+    let l = unstuffFrom h (a .words .now) in (
       record { done = []; size = refl; read = scan-start (a .word-size) (omega arith) (omega arith) l (unstuff-is-bits h (a .words .now)) },
       stands-start h (a .words .now),
       omega arith,
@@ -92,9 +90,12 @@ returns c =
     let total = c .before .before .before .before .before .before .before .stream-length in
     let z = c .before .before .before .before .before .before .loop in
     let h = a .word-size - 1 in
-    let live = sym (c .before .before .before .before .before .stops-at .ensures) ∙ not-true (c .before .before .before .before .before .stops-at .result) (c .before .before .before .before .if1 .taken) in
-    counted-fault h (a .words .now) (z .at) (z .place .word) (z .place .bit) (z .inv .1) (a .word-size) (omega arith) (omega arith) (z .set) (z .n) (z .inv .0)
-    (c .before .before .before .item-at .result) (c .fault-of .result) (c .before .before .match .keys2) (c .fault-of .ensures) live (c .before .before .before .item-at .ensures)
+    let live = sym (c .before .before .before .before .before .stops-at .ensures) ∙ not-true
+    (c .before .before .before .before .before .stops-at .result) (c .before .before .before .before .if1 .taken) in
+    counted-fault h (a .words .now) (z .at) (z .place .word) (z .place .bit) (z .inv .1) (a .word-size) (omega arith) (omega arith) (z .set)
+    (z .n) (z .inv .0)
+    (c .before .before .before .item-at .result) (c .fault-of .result) (c .before .before .match .keys2) (c .fault-of .ensures) live
+    (c .before .before .before .item-at .ensures)
 
 extra-of-requires : tie.Need-extra-of-requires Inv-loop μ-loop
 extra-of-requires c κs =
@@ -104,10 +105,13 @@ extra-of-requires c κs =
     let z = c .before .before .before .before .before .before .loop in
     let h = a .word-size - 1 in
     let found = c .before .found .given in
-    let live = sym (c .before .before .before .before .before .stops-at .ensures) ∙ not-true (c .before .before .before .before .before .stops-at .result) (c .before .before .before .before .if1 .taken) in
+    let live = sym (c .before .before .before .before .before .stops-at .ensures) ∙ not-true
+    (c .before .before .before .before .before .stops-at .result) (c .before .before .before .before .if1 .taken) in
     let turn =
-        counted-item h (a .words .now) (z .at) (z .place .word) (z .place .bit) (z .inv .1) (a .word-size) (omega arith) (omega arith) (z .set) (z .n) (z .inv .0)
-        (found .0 .0) (found .0 .1 .0) (extra (found .0 .0)) (setAfter (z .set) (found .0 .0)) (yields (found .0 .0)) live (sym (c .before .before .before .item-at .ensures) ∙ found .1) refl refl refl
+    counted-item h (a .words .now) (z .at) (z .place .word) (z .place .bit) (z .inv .1) (a .word-size) (omega arith) (omega arith) (z .set)
+    (z .n) (z .inv .0)
+    (found .0 .0) (found .0 .1 .0) (extra (found .0 .0)) (setAfter (z .set) (found .0 .0)) (yields (found .0 .0)) live
+    (sym (c .before .before .before .item-at .ensures) ∙ found .1) refl refl refl
     in
     omega (arith, total .ensures, turn)
 
@@ -119,10 +123,13 @@ add-bits c =
     let z = c .before .before .before .before .before .before .before .loop in
     let h = a .word-size - 1 in
     let found = c .before .before .found .given in
-    let live = sym (c .before .before .before .before .before .before .stops-at .ensures) ∙ not-true (c .before .before .before .before .before .before .stops-at .result) (c .before .before .before .before .before .if1 .taken) in
+    let live = sym (c .before .before .before .before .before .before .stops-at .ensures) ∙ not-true
+    (c .before .before .before .before .before .before .stops-at .result) (c .before .before .before .before .before .if1 .taken) in
     let turn =
-        counted-item h (a .words .now) (z .at) (z .place .word) (z .place .bit) (z .inv .1) (a .word-size) (omega arith) (omega arith) (z .set) (z .n) (z .inv .0)
-        (found .0 .0) (found .0 .1 .0) (extra (found .0 .0)) (setAfter (z .set) (found .0 .0)) (yields (found .0 .0)) live (sym (c .before .before .before .before .item-at .ensures) ∙ found .1) refl refl refl
+    counted-item h (a .words .now) (z .at) (z .place .word) (z .place .bit) (z .inv .1) (a .word-size) (omega arith) (omega arith) (z .set)
+    (z .n) (z .inv .0)
+    (found .0 .0) (found .0 .1 .0) (extra (found .0 .0)) (setAfter (z .set) (found .0 .0)) (yields (found .0 .0)) live
+    (sym (c .before .before .before .before .item-at .ensures) ∙ found .1) refl refl refl
     in
     omega (arith, total .ensures, turn, c .extra-of .ensures)
 
@@ -134,10 +141,13 @@ forward-requires c κs =
     let z = c .before .before .before .before .before .before .before .loop in
     let h = a .word-size - 1 in
     let found = c .before .before .found .given in
-    let live = sym (c .before .before .before .before .before .before .stops-at .ensures) ∙ not-true (c .before .before .before .before .before .before .stops-at .result) (c .before .before .before .before .before .if1 .taken) in
+    let live = sym (c .before .before .before .before .before .before .stops-at .ensures) ∙ not-true
+    (c .before .before .before .before .before .before .stops-at .result) (c .before .before .before .before .before .if1 .taken) in
     let turn =
-        counted-item h (a .words .now) (z .at) (z .place .word) (z .place .bit) (z .inv .1) (a .word-size) (omega arith) (omega arith) (z .set) (z .n) (z .inv .0)
-        (found .0 .0) (found .0 .1 .0) (extra (found .0 .0)) (setAfter (z .set) (found .0 .0)) (yields (found .0 .0)) live (sym (c .before .before .before .before .item-at .ensures) ∙ found .1) refl refl refl
+    counted-item h (a .words .now) (z .at) (z .place .word) (z .place .bit) (z .inv .1) (a .word-size) (omega arith) (omega arith) (z .set)
+    (z .n) (z .inv .0)
+    (found .0 .0) (found .0 .1 .0) (extra (found .0 .0)) (setAfter (z .set) (found .0 .0)) (yields (found .0 .0)) live
+    (sym (c .before .before .before .before .item-at .ensures) ∙ found .1) refl refl refl
     in
     (omega arith, (z .inv .2, omega (arith, total .ensures, turn, c .extra-of .ensures)))
 
@@ -149,10 +159,14 @@ add-at c =
     let z = c .before .before .before .before .before .before .before .before .loop in
     let h = a .word-size - 1 in
     let found = c .before .before .before .found .given in
-    let live = sym (c .before .before .before .before .before .before .before .stops-at .ensures) ∙ not-true (c .before .before .before .before .before .before .before .stops-at .result) (c .before .before .before .before .before .before .if1 .taken) in
+    let live = sym (c .before .before .before .before .before .before .before .stops-at .ensures) ∙ not-true
+    (c .before .before .before .before .before .before .before .stops-at .result)
+    (c .before .before .before .before .before .before .if1 .taken) in
     let turn =
-        counted-item h (a .words .now) (z .at) (z .place .word) (z .place .bit) (z .inv .1) (a .word-size) (omega arith) (omega arith) (z .set) (z .n) (z .inv .0)
-        (found .0 .0) (found .0 .1 .0) (extra (found .0 .0)) (setAfter (z .set) (found .0 .0)) (yields (found .0 .0)) live (sym (c .before .before .before .before .before .item-at .ensures) ∙ found .1) refl refl refl
+    counted-item h (a .words .now) (z .at) (z .place .word) (z .place .bit) (z .inv .1) (a .word-size) (omega arith) (omega arith) (z .set)
+    (z .n) (z .inv .0)
+    (found .0 .0) (found .0 .1 .0) (extra (found .0 .0)) (setAfter (z .set) (found .0 .0)) (yields (found .0 .0)) live
+    (sym (c .before .before .before .before .before .item-at .ensures) ∙ found .1) refl refl refl
     in
     omega (arith, total .ensures, turn, c .before .extra-of .ensures)
 
@@ -170,10 +184,14 @@ add-n c =
     let z = c .before .before .before .before .before .before .before .before .before .before .loop in
     let h = a .word-size - 1 in
     let found = c .before .before .before .before .before .found .given in
-    let live = sym (c .before .before .before .before .before .before .before .before .before .stops-at .ensures) ∙ not-true (c .before .before .before .before .before .before .before .before .before .stops-at .result) (c .before .before .before .before .before .before .before .before .if1 .taken) in
+    let live = sym (c .before .before .before .before .before .before .before .before .before .stops-at .ensures) ∙ not-true
+    (c .before .before .before .before .before .before .before .before .before .stops-at .result)
+    (c .before .before .before .before .before .before .before .before .if1 .taken) in
     let turn =
-        counted-item h (a .words .now) (z .at) (z .place .word) (z .place .bit) (z .inv .1) (a .word-size) (omega arith) (omega arith) (z .set) (z .n) (z .inv .0)
-        (found .0 .0) (found .0 .1 .0) (extra (found .0 .0)) (setAfter (z .set) (found .0 .0)) (yields (found .0 .0)) live (sym (c .before .before .before .before .before .before .before .item-at .ensures) ∙ found .1) refl refl refl
+    counted-item h (a .words .now) (z .at) (z .place .word) (z .place .bit) (z .inv .1) (a .word-size) (omega arith) (omega arith) (z .set)
+    (z .n) (z .inv .0)
+    (found .0 .0) (found .0 .1 .0) (extra (found .0 .0)) (setAfter (z .set) (found .0 .0)) (yields (found .0 .0)) live
+    (sym (c .before .before .before .before .before .before .before .item-at .ensures) ∙ found .1) refl refl refl
     in
     omega (arith, total .ensures, turn, c .bytes-of .ensures)
 
@@ -185,10 +203,14 @@ loop-less c =
     let z = c .before .before .before .before .before .before .before .before .before .before .loop in
     let h = a .word-size - 1 in
     let found = c .before .before .before .before .before .found .given in
-    let live = sym (c .before .before .before .before .before .before .before .before .before .stops-at .ensures) ∙ not-true (c .before .before .before .before .before .before .before .before .before .stops-at .result) (c .before .before .before .before .before .before .before .before .if1 .taken) in
+    let live = sym (c .before .before .before .before .before .before .before .before .before .stops-at .ensures) ∙ not-true
+    (c .before .before .before .before .before .before .before .before .before .stops-at .result)
+    (c .before .before .before .before .before .before .before .before .if1 .taken) in
     let turn =
-        counted-item h (a .words .now) (z .at) (z .place .word) (z .place .bit) (z .inv .1) (a .word-size) (omega arith) (omega arith) (z .set) (z .n) (z .inv .0)
-        (found .0 .0) (found .0 .1 .0) (extra (found .0 .0)) (setAfter (z .set) (found .0 .0)) (yields (found .0 .0)) live (sym (c .before .before .before .before .before .before .before .item-at .ensures) ∙ found .1) refl refl refl
+    counted-item h (a .words .now) (z .at) (z .place .word) (z .place .bit) (z .inv .1) (a .word-size) (omega arith) (omega arith) (z .set)
+    (z .n) (z .inv .0)
+    (found .0 .0) (found .0 .1 .0) (extra (found .0 .0)) (setAfter (z .set) (found .0 .0)) (yields (found .0 .0)) live
+    (sym (c .before .before .before .before .before .before .before .item-at .ensures) ∙ found .1) refl refl refl
     in
     omega (arith, total .ensures, turn, c .before .before .before .extra-of .ensures)
 
@@ -200,15 +222,20 @@ loop-again c =
     let z = c .before .before .before .before .before .before .before .before .before .before .loop in
     let h = a .word-size - 1 in
     let found = c .before .before .before .before .before .found .given in
-    let live = sym (c .before .before .before .before .before .before .before .before .before .stops-at .ensures) ∙ not-true (c .before .before .before .before .before .before .before .before .before .stops-at .result) (c .before .before .before .before .before .before .before .before .if1 .taken) in
+    let live = sym (c .before .before .before .before .before .before .before .before .before .stops-at .ensures) ∙ not-true
+    (c .before .before .before .before .before .before .before .before .before .stops-at .result)
+    (c .before .before .before .before .before .before .before .before .if1 .taken) in
     let turn =
-        counted-item h (a .words .now) (z .at) (z .place .word) (z .place .bit) (z .inv .1) (a .word-size) (omega arith) (omega arith) (z .set) (z .n) (z .inv .0)
-        (found .0 .0) (found .0 .1 .0) (c .before .before .before .extra-of .result) (c .before .set-after .result) (c .bytes-of .result) live (sym (c .before .before .before .before .before .before .before .item-at .ensures) ∙ found .1) (c .before .before .before .extra-of .ensures) (c .before .set-after .ensures) (c .bytes-of .ensures)
+    counted-item h (a .words .now) (z .at) (z .place .word) (z .place .bit) (z .inv .1) (a .word-size) (omega arith) (omega arith) (z .set)
+    (z .n) (z .inv .0)
+    (found .0 .0) (found .0 .1 .0) (c .before .before .before .extra-of .result) (c .before .set-after .result) (c .bytes-of .result) live
+    (sym (c .before .before .before .before .before .before .before .item-at .ensures) ∙ found .1) (c .before .before .before .extra-of .ensures)
+    (c .before .set-after .ensures) (c .bytes-of .ensures)
     in
-    let ahead = c .before .before .forward in
-    (
+    let ahead = c .before .before .forward in (
       turn .3,
-      stands-further h (a .words .now) (z .at) (z .place .word) (z .place .bit) (z .inv .1) _ (ahead .result .word) (ahead .result .bit) (ahead .ensures .0) (turn .1),
+      stands-further h (a .words .now) (z .at) (z .place .word) (z .place .bit) (z .inv .1) _ (ahead .result .word) (ahead .result .bit)
+          (ahead .ensures .0) (turn .1),
       ahead .ensures .1,
     )
 
@@ -220,8 +247,10 @@ returns-2 c =
     let total = c .before .before .before .stream-length in
     let z = c .before .before .loop in
     let h = a .word-size - 1 in
-    counted-stop h (a .words .now) (z .at) (z .place .word) (z .place .bit) (z .inv .1) (a .word-size) (omega arith) (omega arith) (z .set) (z .n) (z .inv .0)
+    counted-stop h (a .words .now) (z .at) (z .place .word) (z .place .bit) (z .inv .1) (a .word-size) (omega arith) (omega arith) (z .set)
+    (z .n) (z .inv .0)
     (sym (c .before .stops-at .ensures) ∙ not-false (c .before .stops-at .result) (c .if1 .left))
+
 pub read-items-spec : {M : Type 1} → statement M
 read-items-spec =
     tie.close

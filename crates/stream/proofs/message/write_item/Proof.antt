@@ -1,8 +1,7 @@
 -- By the kinds of item, each byte is stored in its place.
 -- Assumes nothing.
 use borrow.Author.Needs.{needs}
-use mathlib.Core.Path.{_≡_, sym, ap, _∙_}
-use Prim.Native.Nat.{suc}
+use mathlib.Core.Path.{sym, ap, _∙_}
 use native.Mathlib.Numerals.{add-one}
 use native.Mathlib.Omega.{arith}
 use lib.ListN.{set, length-set}
@@ -69,7 +68,8 @@ returns-4 : tie.Need-returns-4
 returns-4 c =
     let a = c .before .before .before .before .before .before .before .before .before .args in
     let r = rest (a .h) (a .words .now) (a .place .word) (a .place .bit) in
-    c .before .before .write-raw .ensures ∙ sym (ap (λ i. sets (a .message .now) (a .from) (adds i r)) (c .before .before .before .before .before .item3 .given .1))
+    c .before .before .write-raw .ensures ∙ sym
+    (ap (λ i. sets (a .message .now) (a .from) (adds i r)) (c .before .before .before .before .before .item3 .given .1))
 
 pub write-item-spec : {M : Type 1} → statement M
 write-item-spec =

@@ -2,7 +2,7 @@
 -- Assumes nothing.
 use borrow.Author.Needs.{needs}
 use borrow.Author.Tests.{not-true, not-false}
-use mathlib.Core.Path.{_≡_, refl, sym, ap, _∙_, subst}
+use mathlib.Core.Path.{refl, sym, ap, _∙_}
 use mathlib.Core.List.{[]}
 use Prim.Native.Nat.{_+_, _-_, _≤_}
 use native.Mathlib.Omega.{arith}
@@ -91,7 +91,8 @@ same-length c =
     let z = c .before .before .before .before .before .loop in
     let h = a .word-size - 1 in
     let room = read-room (a .word-size) (a .words .now) (a .message .now) (start .pre .1 .1 .1) in
-    filled-length h (a .words .now) (z .at) (z .place .word) (z .place .bit) (z .inv .1) (a .word-size) (omega arith) (omega arith) (z .set) (z .n) (a .message .now) (z .message) (z .inv .0) room
+    filled-length h (a .words .now) (z .at) (z .place .word) (z .place .bit) (z .inv .1) (a .word-size) (omega arith) (omega arith) (z .set)
+    (z .n) (a .message .now) (z .message) (z .inv .0) room
 
 returns : tie.Need-returns Inv-loop μ-loop
 returns c =
@@ -101,7 +102,8 @@ returns c =
     let z = c .before .before .before .before .before .loop in
     let h = a .word-size - 1 in
     let room = read-room (a .word-size) (a .words .now) (a .message .now) (start .pre .1 .1 .1) in
-    let live = sym (c .before .before .before .before .stops-at .ensures) ∙ not-true (c .before .before .before .before .stops-at .result) (c .before .before .before .if1 .taken) in
+    let live = sym (c .before .before .before .before .stops-at .ensures) ∙ not-true (c .before .before .before .before .stops-at .result)
+    (c .before .before .before .if1 .taken) in
     absurd (filled-fault h (a .words .now) (z .at) (z .place .word) (z .place .bit) (z .inv .1) (a .word-size) (omega arith) (omega arith) (z .set) (z .n) (a .message .now) (z .message) (z .inv .0) room (c .before .before .item-at .result) (c .before .match .keys2) live (c .before .before .item-at .ensures))
 
 extra-of-requires : tie.Need-extra-of-requires Inv-loop μ-loop
@@ -112,10 +114,12 @@ extra-of-requires c κs =
     let z = c .before .before .before .before .before .before .loop in
     let h = a .word-size - 1 in
     let room = read-room (a .word-size) (a .words .now) (a .message .now) (start .pre .1 .1 .1) in
-    let live = sym (c .before .before .before .before .before .stops-at .ensures) ∙ not-true (c .before .before .before .before .before .stops-at .result) (c .before .before .before .before .if1 .taken) in
+    let live = sym (c .before .before .before .before .before .stops-at .ensures) ∙ not-true
+    (c .before .before .before .before .before .stops-at .result) (c .before .before .before .before .if1 .taken) in
     let found = c .before .item .given in
     let here = sym (c .before .before .before .item-at .ensures) ∙ found .1 in
-    let bounds = item-bounds h (a .words .now) (z .at) (z .place .word) (z .place .bit) (z .inv .1) (a .word-size) (omega arith) (omega arith) (z .set) (z .n) (a .message .now) (z .message) (z .inv .0) room (found .0 .0) (found .0 .1 .0) live here in
+    let bounds = item-bounds h (a .words .now) (z .at) (z .place .word) (z .place .bit) (z .inv .1) (a .word-size) (omega arith) (omega arith)
+    (z .set) (z .n) (a .message .now) (z .message) (z .inv .0) room (found .0 .0) (found .0 .1 .0) live here in
     omega (arith, total .ensures, bounds)
 
 forward-requires : tie.Need-forward-requires Inv-loop μ-loop
@@ -126,10 +130,12 @@ forward-requires c κs =
     let z = c .before .before .before .before .before .before .before .loop in
     let h = a .word-size - 1 in
     let room = read-room (a .word-size) (a .words .now) (a .message .now) (start .pre .1 .1 .1) in
-    let live = sym (c .before .before .before .before .before .before .stops-at .ensures) ∙ not-true (c .before .before .before .before .before .before .stops-at .result) (c .before .before .before .before .before .if1 .taken) in
+    let live = sym (c .before .before .before .before .before .before .stops-at .ensures) ∙ not-true
+    (c .before .before .before .before .before .before .stops-at .result) (c .before .before .before .before .before .if1 .taken) in
     let found = c .before .before .item .given in
     let here = sym (c .before .before .before .before .item-at .ensures) ∙ found .1 in
-    let bounds = item-bounds h (a .words .now) (z .at) (z .place .word) (z .place .bit) (z .inv .1) (a .word-size) (omega arith) (omega arith) (z .set) (z .n) (a .message .now) (z .message) (z .inv .0) room (found .0 .0) (found .0 .1 .0) live here in
+    let bounds = item-bounds h (a .words .now) (z .at) (z .place .word) (z .place .bit) (z .inv .1) (a .word-size) (omega arith) (omega arith)
+    (z .set) (z .n) (a .message .now) (z .message) (z .inv .0) room (found .0 .0) (found .0 .1 .0) live here in
     (omega arith, (z .inv .2, omega (arith, total .ensures, bounds)))
 
 write-item-requires : tie.Need-write-item-requires Inv-loop μ-loop
@@ -140,10 +146,13 @@ write-item-requires c κs =
     let z = c .before .before .before .before .before .before .before .before .before .loop in
     let h = a .word-size - 1 in
     let room = read-room (a .word-size) (a .words .now) (a .message .now) (start .pre .1 .1 .1) in
-    let live = sym (c .before .before .before .before .before .before .before .before .stops-at .ensures) ∙ not-true (c .before .before .before .before .before .before .before .before .stops-at .result) (c .before .before .before .before .before .before .before .if1 .taken) in
+    let live = sym (c .before .before .before .before .before .before .before .before .stops-at .ensures) ∙ not-true
+    (c .before .before .before .before .before .before .before .before .stops-at .result)
+    (c .before .before .before .before .before .before .before .if1 .taken) in
     let found = c .before .before .before .before .item .given in
     let here = sym (c .before .before .before .before .before .before .item-at .ensures) ∙ found .1 in
-    let bounds = item-bounds h (a .words .now) (z .at) (z .place .word) (z .place .bit) (z .inv .1) (a .word-size) (omega arith) (omega arith) (z .set) (z .n) (a .message .now) (z .message) (z .inv .0) room (found .0 .0) (found .0 .1 .0) live here in
+    let bounds = item-bounds h (a .words .now) (z .at) (z .place .word) (z .place .bit) (z .inv .1) (a .word-size) (omega arith) (omega arith)
+    (z .set) (z .n) (a .message .now) (z .message) (z .inv .0) room (found .0 .0) (found .0 .1 .0) live here in
     let r = rest h (a .words .now) (z .place .word) (z .place .bit) in
     let after = ap length (c .before .forward .ensures .0) in
     (omega arith, (omega (arith, total .ensures, bounds, bits-left h (a .words .now) (z .at) (z .place .word) (z .place .bit) (z .inv .1) (total .result) (total .ensures .0), after, length-drop (found .0 .1 .0) r), omega (arith, bounds, filled-length h (a .words .now) (z .at) (z .place .word) (z .place .bit) (z .inv .1) (a .word-size) (omega arith) (omega arith) (z .set) (z .n) (a .message .now) (z .message) (z .inv .0) room)))
@@ -156,10 +165,13 @@ forward-requires-2 c κs =
     let z = c .before .before .before .before .before .before .before .before .before .before .before .before .loop in
     let h = a .word-size - 1 in
     let room = read-room (a .word-size) (a .words .now) (a .message .now) (start .pre .1 .1 .1) in
-    let live = sym (c .before .before .before .before .before .before .before .before .before .before .before .stops-at .ensures) ∙ not-true (c .before .before .before .before .before .before .before .before .before .before .before .stops-at .result) (c .before .before .before .before .before .before .before .before .before .before .if1 .taken) in
+    let live = sym (c .before .before .before .before .before .before .before .before .before .before .before .stops-at .ensures) ∙ not-true
+    (c .before .before .before .before .before .before .before .before .before .before .before .stops-at .result)
+    (c .before .before .before .before .before .before .before .before .before .before .if1 .taken) in
     let found = c .before .before .before .before .before .before .before .item .given in
     let here = sym (c .before .before .before .before .before .before .before .before .before .item-at .ensures) ∙ found .1 in
-    let bounds = item-bounds h (a .words .now) (z .at) (z .place .word) (z .place .bit) (z .inv .1) (a .word-size) (omega arith) (omega arith) (z .set) (z .n) (a .message .now) (z .message) (z .inv .0) room (found .0 .0) (found .0 .1 .0) live here in
+    let bounds = item-bounds h (a .words .now) (z .at) (z .place .word) (z .place .bit) (z .inv .1) (a .word-size) (omega arith) (omega arith)
+    (z .set) (z .n) (a .message .now) (z .message) (z .inv .0) room (found .0 .0) (found .0 .1 .0) live here in
     (omega arith, (c .before .before .before .before .forward .ensures .1, omega (arith, total .ensures, bounds, c .before .before .before .before .before .extra-of .ensures)))
 
 add-at : tie.Need-add-at Inv-loop μ-loop
@@ -173,7 +185,8 @@ add-at c =
     let live = sym (c .before .before .before .before .before .before .before .before .before .before .before .before .stops-at .ensures) ∙ not-true (c .before .before .before .before .before .before .before .before .before .before .before .before .stops-at .result) (c .before .before .before .before .before .before .before .before .before .before .before .if1 .taken) in
     let found = c .before .before .before .before .before .before .before .before .item .given in
     let here = sym (c .before .before .before .before .before .before .before .before .before .before .item-at .ensures) ∙ found .1 in
-    let bounds = item-bounds h (a .words .now) (z .at) (z .place .word) (z .place .bit) (z .inv .1) (a .word-size) (omega arith) (omega arith) (z .set) (z .n) (a .message .now) (z .message) (z .inv .0) room (found .0 .0) (found .0 .1 .0) live here in
+    let bounds = item-bounds h (a .words .now) (z .at) (z .place .word) (z .place .bit) (z .inv .1) (a .word-size) (omega arith) (omega arith)
+    (z .set) (z .n) (a .message .now) (z .message) (z .inv .0) room (found .0 .0) (found .0 .1 .0) live here in
     omega (arith, total .ensures, bounds, c .before .before .before .before .before .before .extra-of .ensures)
 
 add-at-2 : tie.Need-add-at-2 Inv-loop μ-loop
@@ -187,7 +200,8 @@ add-at-2 c =
     let live = sym (c .before .before .before .before .before .before .before .before .before .before .before .before .stops-at .ensures) ∙ not-true (c .before .before .before .before .before .before .before .before .before .before .before .before .stops-at .result) (c .before .before .before .before .before .before .before .before .before .before .before .if1 .taken) in
     let found = c .before .before .before .before .before .before .before .before .item .given in
     let here = sym (c .before .before .before .before .before .before .before .before .before .before .item-at .ensures) ∙ found .1 in
-    let bounds = item-bounds h (a .words .now) (z .at) (z .place .word) (z .place .bit) (z .inv .1) (a .word-size) (omega arith) (omega arith) (z .set) (z .n) (a .message .now) (z .message) (z .inv .0) room (found .0 .0) (found .0 .1 .0) live here in
+    let bounds = item-bounds h (a .words .now) (z .at) (z .place .word) (z .place .bit) (z .inv .1) (a .word-size) (omega arith) (omega arith)
+    (z .set) (z .n) (a .message .now) (z .message) (z .inv .0) room (found .0 .0) (found .0 .1 .0) live here in
     omega (arith, total .ensures, bounds, c .before .before .before .before .before .before .extra-of .ensures)
 
 set-after-requires : tie.Need-set-after-requires Inv-loop μ-loop
@@ -207,7 +221,8 @@ add-n c =
     let live = sym (c .before .before .before .before .before .before .before .before .before .before .before .before .before .before .stops-at .ensures) ∙ not-true (c .before .before .before .before .before .before .before .before .before .before .before .before .before .before .stops-at .result) (c .before .before .before .before .before .before .before .before .before .before .before .before .before .if1 .taken) in
     let found = c .before .before .before .before .before .before .before .before .before .before .item .given in
     let here = sym (c .before .before .before .before .before .before .before .before .before .before .before .before .item-at .ensures) ∙ found .1 in
-    let bounds = item-bounds h (a .words .now) (z .at) (z .place .word) (z .place .bit) (z .inv .1) (a .word-size) (omega arith) (omega arith) (z .set) (z .n) (a .message .now) (z .message) (z .inv .0) room (found .0 .0) (found .0 .1 .0) live here in
+    let bounds = item-bounds h (a .words .now) (z .at) (z .place .word) (z .place .bit) (z .inv .1) (a .word-size) (omega arith) (omega arith)
+    (z .set) (z .n) (a .message .now) (z .message) (z .inv .0) room (found .0 .0) (found .0 .1 .0) live here in
     omega (arith, total .ensures, bounds, c .bytes-of .ensures)
 
 loop-less : tie.Need-loop-less Inv-loop μ-loop
@@ -221,7 +236,8 @@ loop-less c =
     let live = sym (c .before .before .before .before .before .before .before .before .before .before .before .before .before .before .stops-at .ensures) ∙ not-true (c .before .before .before .before .before .before .before .before .before .before .before .before .before .before .stops-at .result) (c .before .before .before .before .before .before .before .before .before .before .before .before .before .if1 .taken) in
     let found = c .before .before .before .before .before .before .before .before .before .before .item .given in
     let here = sym (c .before .before .before .before .before .before .before .before .before .before .before .before .item-at .ensures) ∙ found .1 in
-    let bounds = item-bounds h (a .words .now) (z .at) (z .place .word) (z .place .bit) (z .inv .1) (a .word-size) (omega arith) (omega arith) (z .set) (z .n) (a .message .now) (z .message) (z .inv .0) room (found .0 .0) (found .0 .1 .0) live here in
+    let bounds = item-bounds h (a .words .now) (z .at) (z .place .word) (z .place .bit) (z .inv .1) (a .word-size) (omega arith) (omega arith)
+    (z .set) (z .n) (a .message .now) (z .message) (z .inv .0) room (found .0 .0) (found .0 .1 .0) live here in
     omega (arith, total .ensures, bounds, c .before .before .before .before .before .before .before .before .extra-of .ensures)
 
 loop-again : tie.Need-loop-again Inv-loop μ-loop
@@ -235,25 +251,28 @@ loop-again c =
     let live = sym (c .before .before .before .before .before .before .before .before .before .before .before .before .before .before .stops-at .ensures) ∙ not-true (c .before .before .before .before .before .before .before .before .before .before .before .before .before .before .stops-at .result) (c .before .before .before .before .before .before .before .before .before .before .before .before .before .if1 .taken) in
     let found = c .before .before .before .before .before .before .before .before .before .before .item .given in
     let here = sym (c .before .before .before .before .before .before .before .before .before .before .before .before .item-at .ensures) ∙ found .1 in
-    let bounds = item-bounds h (a .words .now) (z .at) (z .place .word) (z .place .bit) (z .inv .1) (a .word-size) (omega arith) (omega arith) (z .set) (z .n) (a .message .now) (z .message) (z .inv .0) room (found .0 .0) (found .0 .1 .0) live here in
+    let bounds = item-bounds h (a .words .now) (z .at) (z .place .word) (z .place .bit) (z .inv .1) (a .word-size) (omega arith) (omega arith)
+    (z .set) (z .n) (a .message .now) (z .message) (z .inv .0) room (found .0 .0) (found .0 .1 .0) live here in
     let u = found .0 .1 .0 in
     let more = c .before .before .before .before .before .before .before .before .extra-of in
     let ahead = c .before .before .before .before .before .before .before .forward in
     let r = rest h (a .words .now) (ahead .result .word) (ahead .result .bit) in
     let last = c .before .before .forward2 in
     let whole =
-        last .ensures .0
-        ∙ ap (drop (more .result)) (ahead .ensures .0)
-        ∙ drop-drop (more .result) u (rest h (a .words .now) (z .place .word) (z .place .bit))
+    last .ensures .0
+    ∙ ap (drop (more .result)) (ahead .ensures .0)
+    ∙ drop-drop (more .result) u (rest h (a .words .now) (z .place .word) (z .place .bit))
     in
     let full =
-        filled-item h (a .words .now) (z .at) (z .place .word) (z .place .bit) (z .inv .1) (a .word-size) (omega arith) (omega arith) (z .set) (z .n) (a .message .now) (z .message) (z .inv .0) room (found .0 .0) u live here (more .result) (c .before .set-after .result) (c .bytes-of .result) r (adds (found .0 .0) r)
-        (ahead .ensures .0) refl (more .ensures) (c .before .set-after .ensures) (c .bytes-of .ensures)
+    filled-item h (a .words .now) (z .at) (z .place .word) (z .place .bit) (z .inv .1) (a .word-size) (omega arith) (omega arith) (z .set) (z .n)
+    (a .message .now) (z .message) (z .inv .0) room (found .0 .0) u live here (more .result) (c .before .set-after .result) (c .bytes-of .result)
+    r (adds (found .0 .0) r)
+    (ahead .ensures .0) refl (more .ensures) (c .before .set-after .ensures) (c .bytes-of .ensures)
     in
-    let fits : z .at + (u + more .result) ≤ length (unstuffFrom h (a .words .now)) = omega (arith, bounds, more .ensures) in
-    (
+    let fits : z .at + (u + more .result) ≤ length (unstuffFrom h (a .words .now)) = omega (arith, bounds, more .ensures) in (
       rw (c .before .before .before .before .before .write-item .ensures) full,
-      stands-further h (a .words .now) (z .at) (z .place .word) (z .place .bit) (z .inv .1) (u + more .result) (last .result .word) (last .result .bit) whole fits,
+      stands-further h (a .words .now) (z .at) (z .place .word) (z .place .bit) (z .inv .1) (u + more .result) (last .result .word)
+          (last .result .bit) whole fits,
       last .ensures .1,
     )
 
@@ -265,7 +284,8 @@ same-length-2 c =
     let z = c .before .before .loop in
     let h = a .word-size - 1 in
     let room = read-room (a .word-size) (a .words .now) (a .message .now) (start .pre .1 .1 .1) in
-    filled-length h (a .words .now) (z .at) (z .place .word) (z .place .bit) (z .inv .1) (a .word-size) (omega arith) (omega arith) (z .set) (z .n) (a .message .now) (z .message) (z .inv .0) room
+    filled-length h (a .words .now) (z .at) (z .place .word) (z .place .bit) (z .inv .1) (a .word-size) (omega arith) (omega arith) (z .set)
+    (z .n) (a .message .now) (z .message) (z .inv .0) room
 
 returns-2 : tie.Need-returns-2 Inv-loop μ-loop
 returns-2 c =

@@ -67,7 +67,8 @@ loop-again c =
     let z = c .before .before .before .before .loop in
     let l = rest (a .h) (a .words .now) (a .place .word) (a .place .bit) in
     let size = c .before .word-length in
-    let near = more-left (a .h) (a .words .now) (z .word) (z .bit) (a .n) (z .value) (z .left) l (z .inv .0) (z .inv .1) (start .pre .1 .1) (omega arith) in
+    let near = more-left (a .h) (a .words .now) (z .word) (z .bit) (a .n) (z .value) (z .left) l (z .inv .0) (z .inv .1) (start .pre .1 .1)
+    (omega arith) in
     let past = rest-past (a .h) (a .words .now) (z .word) (z .bit) (size .result) (size .ensures) near (omega arith) in
     (subst (λ l′. Taken l (a .n - z .left) (z .value) l′) past (z .inv .0), z .inv .1)
 
@@ -123,9 +124,9 @@ loop-again-2 c =
     let z = c .before .before .before .before .before .before .loop in
     let l = rest (a .h) (a .words .now) (a .place .word) (a .place .bit) in
     let k = c .before .smaller .result in
-    let near = more-left (a .h) (a .words .now) (z .word) (z .bit) (a .n) (z .value) (z .left) l (z .inv .0) (z .inv .1) (start .pre .1 .1) (omega arith) in
-    let more = take-more (a .h) (a .words .now) (z .word) (z .bit) (a .n) (z .value) (z .left) l (z .inv .0) (z .inv .1) k in
-    (
+    let near = more-left (a .h) (a .words .now) (z .word) (z .bit) (a .n) (z .value) (z .left) l (z .inv .0) (z .inv .1) (start .pre .1 .1)
+    (omega arith) in
+    let more = take-more (a .h) (a .words .now) (z .word) (z .bit) (a .n) (z .value) (z .left) l (z .inv .0) (z .inv .1) k in (
       more _ (omega arith) near (omega (arith, c .before .before .before .word-length .ensures)) (omega (arith, value-fits (a .h) (a .words .now) (z .word) (z .bit) (a .n) (z .value) (z .left) l (z .inv .0) (z .inv .1) k (rest-is-bits (a .h) (a .words .now) (a .place .word) (a .place .bit)) (omega arith) (omega arith), c .word-part .ensures)),
       omega arith,
     )
@@ -138,6 +139,7 @@ returns c =
     let l = rest (a .h) (a .words .now) (a .place .word) (a .place .bit) in
     let all : a .n - z .left ≡ a .n = omega arith in
     subst (λ n. Taken l n (z .value) (rest (a .h) (a .words .now) (z .word) (z .bit))) all (z .inv .0)
+
 pub take-bits-spec : {M : Type 1} → statement M
 take-bits-spec =
     tie.close

@@ -1,8 +1,8 @@
 -- A shift divides, and what is left of the division are the k bits.
 -- Assumes nothing.
 use borrow.Author.Needs.{needs}
-use mathlib.Core.Path.{_≡_, ap, ap₂}
-use Prim.Native.Nat.{suc, _+_, _-_, _/_, _%_, _^_}
+use mathlib.Core.Path.{ap₂}
+use Prim.Native.Nat.{_+_, _-_, _/_, _%_, _^_}
 use native.Mathlib.Numerals.{add-one}
 use native.Mathlib.Omega.{arith}
 use lib.Pow.{pow-pos}
@@ -30,6 +30,7 @@ rem-result c = let k = c .args .k in omega (arith, one-shl k (omega arith), pow-
 
 returns : tie.Need-returns
 returns c = let a = c .args in ap₂ (λ n m. a .word / 2 ^ (n - (a .bit + a .k)) % m) (add-one (a .h)) (one-shl (a .k) (omega arith))
+
 pub word-part-spec : {M : Type 1} → statement M
 word-part-spec =
     tie.close
