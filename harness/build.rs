@@ -1,4 +1,5 @@
-//! Links the archive under test, and libfec only where its feature is asked for.
+//! Links the archives under test, that of the stream only where it exists, and libfec only
+//! where its feature is asked for.
 
 use std::{env, path::Path};
 
@@ -13,6 +14,13 @@ fn main() {
     );
     println!("cargo:rustc-link-search=native={}", folder.display());
     println!("cargo:rustc-link-lib=static=aztec_c");
+    let stream = folder.join("libstream_c.a");
+    println!("cargo:rerun-if-changed={}", stream.display());
+    println!("cargo:rustc-check-cfg=cfg(stream_c)");
+    if stream.exists() {
+        println!("cargo:rustc-cfg=stream_c");
+        println!("cargo:rustc-link-lib=static=stream_c");
+    }
     if env::var_os("CARGO_FEATURE_LIBFEC").is_some() {
         println!("cargo:rustc-link-lib=fec");
     }

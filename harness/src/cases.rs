@@ -1,10 +1,16 @@
 //! The cases: calls with the answer known beforehand, where there is one.
 
+#[cfg(stream_c)]
+pub mod blocks;
 pub mod damage;
 pub mod large;
 pub mod named;
 pub mod small;
+#[cfg(stream_c)]
+pub mod text;
 pub mod unlawful;
+#[cfg(stream_c)]
+pub mod walks;
 
 use crate::field::{Field, SIZES};
 use crate::random::Random;

@@ -17,9 +17,9 @@ const TOLD: usize = 10;
 const SMALL_STACK: usize = 256 * 1024;
 
 #[derive(Default)]
-struct Tally {
-    passed: usize,
-    failed: usize,
+pub struct Tally {
+    pub passed: usize,
+    pub failed: usize,
     /// How often each number was due.
     numbers: BTreeMap<u32, usize>,
     /// Cases of each label.
@@ -35,33 +35,44 @@ pub fn run(seed: u64, count: usize) -> ExitCode {
         let due = tally.due(&case);
         let turn = tally.passed + tally.failed;
         let list = differences(&case.call, &due, turn);
-        tally.count(&case, &due, list);
+        tally.count_case(&case, &due, list);
     });
     // Last, since a stack that is too small ends the program.
     let case = cases::large::largest(&mut Random::new(seed ^ 3));
     let due = tally.due(&case);
-    let list = on_small_stack(&case, &due);
-    tally.count(&case, &due, list);
+    let list = on_small_stack(|| differences(&case.call, &due, 1));
+    tally.count_case(&case, &due, list);
     tally.report(seed)
 }
 
 impl Tally {
-    fn fail(&mut self, what: &str) {
+    pub fn fail(&mut self, what: &str) {
         self.failed += 1;
         if self.failed <= TOLD {
             eprintln!("{what}");
         }
     }
 
-    fn count(&mut self, case: &Case, due: &Answer, list: Vec<String>) {
-        *self.labels.entry(case.label).or_default() += 1;
-        let number = due.as_ref().err().copied().unwrap_or(0);
+    /// Counts a case of a label with the number that is due; `list` is what was unlike it.
+    pub fn count(
+        &mut self,
+        label: &'static str,
+        number: u32,
+        list: Vec<String>,
+        told: impl FnOnce() -> String,
+    ) {
+        *self.labels.entry(label).or_default() += 1;
         *self.numbers.entry(number).or_default() += 1;
         if list.is_empty() {
             self.passed += 1;
             return;
         }
-        self.fail(&format!("{}: {}", told(case), list.join("; ")));
+        self.fail(&format!("{}: {}", told(), list.join("; ")));
+    }
+
+    fn count_case(&mut self, case: &Case, due: &Answer, list: Vec<String>) {
+        let number = due.as_ref().err().copied().unwrap_or(0);
+        self.count(case.label, number, list, || told(case));
     }
 
     /// The answer due. Where several ways lead to it, they have to agree, or the harness
@@ -81,7 +92,7 @@ impl Tally {
         answers.swap_remove(0)
     }
 
-    fn report(&self, seed: u64) -> ExitCode {
+    pub fn report(&self, seed: u64) -> ExitCode {
         println!("seed {seed}");
         for (label, count) in &self.labels {
             println!("{count:>7}  {label}");
@@ -135,11 +146,12 @@ fn told(case: &Case) -> String {
     text
 }
 
-fn on_small_stack(case: &Case, due: &Answer) -> Vec<String> {
+/// Does some work on a thread with the small stack.
+pub fn on_small_stack<T: Send>(work: impl FnOnce() -> T + Send) -> T {
     std::thread::scope(|scope| {
         std::thread::Builder::new()
             .stack_size(SMALL_STACK)
-            .spawn_scoped(scope, || differences(&case.call, due, 1))
+            .spawn_scoped(scope, work)
             .expect("a thread can be started")
             .join()
             .expect("the thread comes back")

@@ -46,7 +46,7 @@ const GUARD: usize = 32;
 
 /// A buffer with guards before and behind it. The front guard's length goes with `turn`, so
 /// that buffers don't always start on a round address.
-struct Guarded<T> {
+pub struct Guarded<T> {
     whole: Vec<T>,
     front: usize,
     len: usize,
@@ -55,7 +55,7 @@ struct Guarded<T> {
 }
 
 impl<T: Copy + PartialEq> Guarded<T> {
-    fn new(inside: &[T], turn: usize, pattern: fn(usize, usize) -> T) -> Guarded<T> {
+    pub fn new(inside: &[T], turn: usize, pattern: fn(usize, usize) -> T) -> Guarded<T> {
         let front = GUARD + turn % 7;
         let mut whole: Vec<T> = (0..front + inside.len() + GUARD)
             .map(|i| pattern(i, turn))
@@ -70,16 +70,16 @@ impl<T: Copy + PartialEq> Guarded<T> {
         }
     }
 
-    fn inside(&self) -> &[T] {
+    pub fn inside(&self) -> &[T] {
         &self.whole[self.front..self.front + self.len]
     }
 
-    fn inside_mut(&mut self) -> *mut T {
+    pub fn inside_mut(&mut self) -> *mut T {
         // The whole allocation stands behind this pointer, guards included.
         unsafe { self.whole.as_mut_ptr().add(self.front) }
     }
 
-    fn guards_intact(&self) -> bool {
+    pub fn guards_intact(&self) -> bool {
         let outside = (0..self.front).chain(self.front + self.len..self.whole.len());
         let mut outside = outside.map(|i| self.whole[i] == (self.pattern)(i, self.turn));
         outside.all(|same| same)
@@ -88,7 +88,7 @@ impl<T: Copy + PartialEq> Guarded<T> {
 
 /// Every other turn the guards look like lawful words and marks, so that words read from
 /// outside would be taken for real ones.
-fn word_pattern(i: usize, turn: usize) -> u16 {
+pub fn word_pattern(i: usize, turn: usize) -> u16 {
     let word = (i as u16).wrapping_mul(0x9E37) ^ 0xC3A5;
     if turn & 1 == 0 {
         word | 0x8000
@@ -97,7 +97,7 @@ fn word_pattern(i: usize, turn: usize) -> u16 {
     }
 }
 
-fn mark_pattern(i: usize, turn: usize) -> u8 {
+pub fn mark_pattern(i: usize, turn: usize) -> u8 {
     let mark = (i as u8).wrapping_mul(0x35) ^ 0x5A;
     if turn & 1 == 0 {
         mark | 0x80
@@ -106,8 +106,8 @@ fn mark_pattern(i: usize, turn: usize) -> u8 {
     }
 }
 
-/// What stands in `corrected` before a call: no value of it is a word of any field.
-fn untouched(len: usize) -> Vec<u16> {
+/// What stands in a buffer for words before a call: no value of it is a word of any size.
+pub fn untouched(len: usize) -> Vec<u16> {
     (0..len)
         .map(|i| 0xB000 | (i as u16).wrapping_mul(0x6D) & 0x0FFF)
         .collect()

@@ -2,6 +2,8 @@
 //!
 //! `harness compare [--seed N] [--count N]` prints `N passed, M failed` as its last line.
 //! `harness bench` prints times, beside libfec's with the feature `libfec`.
+//! `harness compare-stream [--seed N] [--count N]` and `harness bench-stream` do the same for
+//! the bit stream, where the archive `libstream_c.a` was there when the harness was built.
 
 mod bench;
 mod cases;
@@ -11,10 +13,13 @@ mod guard;
 mod peer;
 mod random;
 mod reference;
+#[cfg(stream_c)]
+mod stream;
 
 use std::process::ExitCode;
 
-const USAGE: &str = "usage: harness compare [--seed N] [--count N] | harness bench";
+const USAGE: &str = "usage: harness compare [--seed N] [--count N] | harness bench
+       harness compare-stream [--seed N] [--count N] | harness bench-stream";
 const SEED: u64 = 24_778;
 const COUNT: usize = 20_000;
 
@@ -27,8 +32,27 @@ fn main() -> ExitCode {
             Some((seed, count)) => compare::run(seed, count),
             None => usage(),
         },
+        ["bench-stream"] => bench_stream(),
+        ["compare-stream", options @ ..] => match parsed(options) {
+            Some((seed, count)) => compare_stream(seed, count),
+            None => usage(),
+        },
         _ => usage(),
     }
+}
+
+#[cfg(stream_c)]
+use stream::{bench::run as bench_stream, compare::run as compare_stream};
+
+#[cfg(not(stream_c))]
+fn bench_stream() -> ExitCode {
+    eprintln!("built without libstream_c.a: the archive was missing");
+    ExitCode::from(2)
+}
+
+#[cfg(not(stream_c))]
+fn compare_stream(_seed: u64, _count: usize) -> ExitCode {
+    bench_stream()
 }
 
 fn usage() -> ExitCode {
