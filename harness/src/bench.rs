@@ -38,32 +38,26 @@ const ROWS: [Row; 6] = [
         runs: RUNS,
         unit: ("ms per hundred", 1e3),
     },
-    Row {
-        title: "C1 (B 6, n 17, K 7), clean",
-        bits: 6,
-        n: 17,
-        k: 7,
-        damage: (0, 0),
-        blocks: 100,
-        rounds: 100,
-        runs: RUNS,
-        unit: ("ns a call", 1e9 / 1e4),
-    },
-    Row {
-        title: "C1 (B 6, n 17, K 7), three wrong words",
-        bits: 6,
-        n: 17,
-        k: 7,
-        damage: (3, 0),
-        blocks: 100,
-        rounds: 100,
-        runs: RUNS,
-        unit: ("ns a call", 1e9 / 1e4),
-    },
+    smallest("C1 (B 6, n 17, K 7), clean", (0, 0)),
+    smallest("C1 (B 6, n 17, K 7), three wrong words", (3, 0)),
     largest("B 12, n 4,095, K 4,094, 2,047 wrong words", (2_047, 0)),
     largest("B 12, n 4,095, K 4,094, 4,094 marked words", (0, 4_094)),
     largest("B 12, n 4,095, K 4,094, garbage", (4_095, 0)),
 ];
+
+const fn smallest(title: &'static str, damage: (usize, usize)) -> Row {
+    Row {
+        title,
+        bits: 6,
+        n: 17,
+        k: 7,
+        damage,
+        blocks: 100,
+        rounds: 100,
+        runs: RUNS,
+        unit: ("ns a call", 1e9 / 1e4),
+    }
+}
 
 const fn largest(title: &'static str, damage: (usize, usize)) -> Row {
     Row {
