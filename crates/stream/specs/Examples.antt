@@ -37,7 +37,7 @@ pub record Read : Type 0 where
   pub bits : List ℕ
   pub says : Reading
 
--- annex G, "Code 2D!"; with B 12 a latch to Digit and eleven 1s, where the reading stops, or twelve, a shift without its character
+-- annex G, "Code 2D!"; with B 12 a latch to Digit and eleven 1s, where the reading stops, or twelve: U/S and then B/S, no character
 unfoldable pub reads : List Read
 unfolding unstuff unstuffFrom wordBits flat bits
 reads =
