@@ -3,4 +3,5 @@ pub mod Range
 pub mod Filled
 pub mod Downward
 pub mod Parts
+pub mod Writes
 pub mod Table

@@ -1,0 +1,9 @@
+pub mod Shapes
+pub mod Places
+pub mod Layers
+pub mod DataPlaces
+pub mod CorePlaces
+pub mod Drawing
+pub mod Positions
+pub mod ShapeTable
+pub mod GridWords

@@ -1,0 +1,1 @@
+// The symbol (document 01, "Modules and shapes"): the 36 shapes, the places of modules, and how words are drawn there.
