@@ -59,7 +59,7 @@ shift-item-requires c κs =
     let v = t .result .value in
     let below = code-below (a .set) (w .result) (w .ensures) (rest-is-bits (a .h) (a .words .now) (a .place .word) (a .place .bit))
     (t .ensures) in
-    let near = shift-set (a .set) v (c .before .t2 .given .0 .0) (start .pre .1 .0) below (cc) in
+    let near = shift-set (a .set) v (c .before .t2 .given .0 .0) (start .pre .1 .0) below (sym (c .before .before .before .entry-at .ensures) ∙ c .before .t2 .given .1) in
     (start .pre .0, (omega (arith, w .ensures, width-bounds (a .set)), (near, omega (arith, taken-left (t .ensures)))))
 
 enum-told : tie.Need-enum-told
@@ -87,7 +87,7 @@ returns-2 c =
     item-found r (a .set) (c .before .before .before .before .before .before .width-of .result)
     (c .before .before .before .before .take-bits .result .value) (Char (c .before .b .given .0 .0))
     (c .before .before .before .before .before .before .width-of .ensures) (omega arith)
-    (field-says r 0 refl (c .before .before .before .before .take-bits .ensures)) (cc)
+    (field-says r 0 refl (c .before .before .before .before .take-bits .ensures)) (sym (c .before .before .before .entry-at .ensures) ∙ c .before .b .given .1)
 
 returns-3 : tie.Need-returns-3
 unfolding itemBy
@@ -98,7 +98,7 @@ returns-3 c =
     item-found r (a .set) (c .before .before .before .before .before .before .width-of .result)
     (c .before .before .before .before .take-bits .result .value) (Pair (c .before .b2 .given .0 .0) (c .before .b2 .given .0 .1 .0))
     (c .before .before .before .before .before .before .width-of .ensures) (omega arith)
-    (field-says r 0 refl (c .before .before .before .before .take-bits .ensures)) (cc)
+    (field-says r 0 refl (c .before .before .before .before .take-bits .ensures)) (sym (c .before .before .before .entry-at .ensures) ∙ c .before .b2 .given .1)
 
 returns-4 : tie.Need-returns-4
 unfolding itemBy
@@ -109,7 +109,7 @@ returns-4 c =
     item-found r (a .set) (c .before .before .before .before .before .before .width-of .result)
     (c .before .before .before .before .take-bits .result .value) (Latch (c .before .t .given .0 .0))
     (c .before .before .before .before .before .before .width-of .ensures) (omega arith)
-    (field-says r 0 refl (c .before .before .before .before .take-bits .ensures)) (cc)
+    (field-says r 0 refl (c .before .before .before .before .take-bits .ensures)) (sym (c .before .before .before .entry-at .ensures) ∙ c .before .t .given .1)
 
 returns-5 : tie.Need-returns-5
 returns-5 c =
@@ -120,7 +120,7 @@ returns-5 c =
     ∙ item-found r (a .set) (c .before .before .before .before .before .before .before .width-of .result)
     (c .before .before .before .before .before .take-bits .result .value) (Shift (c .before .before .t2 .given .0 .0))
     (c .before .before .before .before .before .before .before .width-of .ensures) (omega arith)
-    (field-says r 0 refl (c .before .before .before .before .before .take-bits .ensures)) (cc)
+    (field-says r 0 refl (c .before .before .before .before .before .take-bits .ensures)) (sym (c .before .before .before .before .entry-at .ensures) ∙ c .before .before .t2 .given .1)
 
 returns-6 : tie.Need-returns-6
 unfolding itemBy
@@ -132,7 +132,7 @@ returns-6 c =
     ∙ item-found r (a .set) (c .before .before .before .before .before .before .width-of .result)
     (c .before .before .before .before .take-bits .result .value) Binary (c .before .before .before .before .before .before .width-of .ensures)
     (omega arith)
-    (field-says r 0 refl (c .before .before .before .before .take-bits .ensures)) (cc)
+    (field-says r 0 refl (c .before .before .before .before .take-bits .ensures)) (sym (c .before .before .before .entry-at .ensures) ∙ c .before .enum-told .given .1)
 
 returns-7 : tie.Need-returns-7
 unfolding itemBy
@@ -142,7 +142,7 @@ returns-7 c =
     let r = rest (a .h) (a .words .now) (a .place .word) (a .place .bit) in
     item-found r (a .set) (c .before .before .before .before .before .width-of .result) (c .before .before .before .take-bits .result .value)
     Flag (c .before .before .before .before .before .width-of .ensures) (omega arith)
-    (field-says r 0 refl (c .before .before .before .take-bits .ensures)) (cc)
+    (field-says r 0 refl (c .before .before .before .take-bits .ensures)) (sym (c .before .before .entry-at .ensures) ∙ c .enum-told2 .given .1)
 
 returns-8 : tie.Need-returns-8
 unfolding itemBy
@@ -152,7 +152,7 @@ returns-8 c =
     let r = rest (a .h) (a .words .now) (a .place .word) (a .place .bit) in
     item-found r (a .set) (c .before .before .before .before .before .width-of .result) (c .before .before .before .take-bits .result .value)
     Missing (c .before .before .before .before .before .width-of .ensures) (omega arith)
-    (field-says r 0 refl (c .before .before .before .take-bits .ensures)) (cc)
+    (field-says r 0 refl (c .before .before .before .take-bits .ensures)) (sym (c .before .before .entry-at .ensures) ∙ c .enum-told3 .given .1)
 
 pub item-at-spec : {M : Type 1} → statement M
 item-at-spec =

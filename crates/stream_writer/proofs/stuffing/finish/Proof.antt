@@ -1,7 +1,7 @@
 -- The last word has some 1s; what is left to fill falls.
 -- Assumes nothing.
 use borrow.Author.Needs.{needs}
-use mathlib.Core.Path.{_≡_, refl, ap, _∙_, subst}
+use mathlib.Core.Path.{_≡_, refl, sym, ap, _∙_, subst}
 use mathlib.Core.List.{[], _∷_, _++_}
 use Prim.Native.Nat.{ℕ, suc, _+_, _*_, _-_, _^_, _≤_, min}
 use native.Mathlib.Omega.{arith}
@@ -44,7 +44,7 @@ loop-less c =
     let s = l .before .before in
     let i = l .loop .inv in
     let p = c .before .bits .given .0 in
-    omega (arith, i .2 .state .few, one-more (s .args .h) (l .loop .k) (l .loop .v) (p .0) (p .1 .0) (s .pre .0) (i .2 .state) (cc))
+    omega (arith, i .2 .state .few, one-more (s .args .h) (l .loop .k) (l .loop .v) (p .0) (p .1 .0) (s .pre .0) (i .2 .state) (sym (c .before .before .before .put-bit .ensures) ∙ c .before .bits .given .1))
 
 loop-again : tie.Need-loop-again Inv-loop μ-loop
 loop-again c =
@@ -52,9 +52,9 @@ loop-again c =
     let s = l .before .before in
     let i = l .loop .inv in
     let p = c .before .bits .given .0 in (
-      omega (arith, one-more (s .args .h) (l .loop .k) (l .loop .v) (p .0) (p .1 .0) (s .pre .0) (i .2 .state) (cc)),
+      omega (arith, one-more (s .args .h) (l .loop .k) (l .loop .v) (p .0) (p .1 .0) (s .pre .0) (i .2 .state) (sym (c .before .before .before .put-bit .ensures) ∙ c .before .bits .given .1)),
       i .1,
-      ending-part (s .pre .0) (i .2) (omega arith) (cc),
+      ending-part (s .pre .0) (i .2) (omega arith) (sym (c .before .before .before .put-bit .ensures) ∙ c .before .bits .given .1),
     )
 
 enum-known-x : tie.Need-enum-known-x Inv-loop μ-loop
@@ -67,7 +67,7 @@ store-requires c κs =
     let x = c .before .before .x .given .0 .0 in
     omega (
       arith,
-      word-below (s .args .h) (l .loop .k) (l .loop .v) 1 x (s .pre .0) (l .loop .inv .2 .state) (omega arith) (cc),
+      word-below (s .args .h) (l .loop .k) (l .loop .v) 1 x (s .pre .0) (l .loop .inv .2 .state) (omega arith) (sym (c .before .before .before .before .put-bit .ensures) ∙ c .before .before .x .given .1),
       pow-mono {i = suc (s .args .h)} {j = 12} (omega arith),
     )
 
@@ -86,7 +86,7 @@ loop-again-2 c =
     let stored = c .before .before .store .ensures in (
       omega arith,
       ap length stored ∙ simp length-set (i .1),
-      ending-word (s .pre .0) (i .2) (omega arith) (cc) stored,
+      ending-word (s .pre .0) (i .2) (omega arith) (sym (c .before .before .before .before .before .before .before .put-bit .ensures) ∙ c .before .before .before .before .before .x .given .1) stored,
     )
 
 same-length : tie.Need-same-length Inv-loop μ-loop

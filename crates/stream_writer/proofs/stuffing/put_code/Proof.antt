@@ -1,7 +1,7 @@
 -- The bits of the code above the lowest i are written.
 -- Assumes nothing.
 use borrow.Author.Needs.{needs}
-use mathlib.Core.Path.{_≡_, refl, ap, _∙_}
+use mathlib.Core.Path.{_≡_, refl, sym, ap, _∙_}
 use Prim.Native.Nat.{suc, _+_, _-_, _/_, _%_, _^_, _≤_}
 use native.Mathlib.Omega.{arith}
 use lib.ListN.{length, length-set}
@@ -51,7 +51,7 @@ loop-again c =
       omega arith,
       omega arith,
       i .2,
-      sent-more _ _ _ _ _ _ _ (l .loop .i) (omega arith) (i .0) (i .3) (coded-part (s .pre .0 .0) (i .3 .state) (omega arith) (cc)),
+      sent-more _ _ _ _ _ _ _ (l .loop .i) (omega arith) (i .0) (i .3) (coded-part (s .pre .0 .0) (i .3 .state) (omega arith) (sym (c .before .before .before .put-bit .ensures) ∙ c .before .bits .given .1)),
     )
 
 enum-known-x : tie.Need-enum-known-x Inv-loop μ-loop
@@ -65,7 +65,7 @@ store-requires c κs =
     let x = c .before .before .x .given .0 .0 in
     omega (
       arith,
-      word-below (s .args .h) (l .loop .k) (l .loop .v) bit x (s .pre .0 .0) (l .loop .inv .3 .state) (omega arith) (cc),
+      word-below (s .args .h) (l .loop .k) (l .loop .v) bit x (s .pre .0 .0) (l .loop .inv .3 .state) (omega arith) (sym (c .before .before .before .before .put-bit .ensures) ∙ c .before .before .x .given .1),
       pow-mono {i = suc (s .args .h)} {j = 12} (omega arith),
     )
 
@@ -84,7 +84,7 @@ loop-again-2 c =
       omega arith,
       omega arith,
       ap length stored ∙ simp length-set (i .2),
-      sent-more _ _ _ _ _ _ _ (l .loop .i) (omega arith) (i .0) (i .3) (coded-word (s .pre .0 .0) (i .3 .state) (omega arith) (cc) stored),
+      sent-more _ _ _ _ _ _ _ (l .loop .i) (omega arith) (i .0) (i .3) (coded-word (s .pre .0 .0) (i .3 .state) (omega arith) (sym (c .before .before .before .before .before .before .before .put-bit .ensures) ∙ c .before .before .before .before .before .x .given .1) stored),
     )
 
 same-length : tie.Need-same-length Inv-loop μ-loop
