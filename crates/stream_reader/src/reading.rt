@@ -2,8 +2,8 @@
 ghost use mathlib.Core.Path.{_≡_};
 ghost use Prim.Native.Nat.{suc, _+_, _-_, _/_, _%_, _^_, _≤_, _<_};
 ghost use lib.ListN.{length, drop};
-ghost use Rattle.stream_reader.specs.Places.{wordLength, rest, Taken};
 ghost use Rattle.stream.specs.Stuffing.{unstuffFrom};
+ghost use Rattle.stream_reader.specs.Places.{wordLength, rest, Taken};
 
 // Stream bit `bit` of word `word` and of the words after it.
 pub struct Place {

@@ -10,7 +10,6 @@ use native.Mathlib.Numerals.{add-one}
 use lib.ListN.{length, getD, take, drop, length-drop}
 use lib.Seq.{take-suc, getD-drop, length-take-le}
 use Rattle.list_laws.specs.Tests.{holds}
-use Rattle.stream_writer.specs.declared.stuffing.Out.{Out}
 use Rattle.stream.specs.Bits.{bits, length-bits}
 use Rattle.stream.specs.Codes.{width, codeOf, has, home, coded}
 use Rattle.stream.specs.Latches.{latchBits}
@@ -18,6 +17,7 @@ use Rattle.stream.specs.Stream.{target, charBits, runLength, runSet, countBits,
 use Rattle.stream.specs.CodeLaws.{char-facts, run-facts}
 use Rattle.stream.specs.StreamLaws.{run-most, run-more-at, stream-char-at, stream-part-at}
 use Rattle.stream.specs.StreamLength.{length-bytes}
+use Rattle.stream_writer.specs.declared.stuffing.Out.{Out}
 use Rattle.stream_writer.specs.Writing.{Coded, Wrote}
 use Rattle.stream_writer.specs.Encoding.{coded-count, Turned}
 

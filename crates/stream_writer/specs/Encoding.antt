@@ -7,8 +7,6 @@ use Prim.Native.Nat.{ℕ, zero, suc, _+_, _*_, _-_, _≤_, _<_}
 use native.Mathlib.Omega.{arith}
 use lib.Dec.{eqb, leb}
 use lib.ListN.{length, drop, length-append}
-use Rattle.stream_writer.specs.declared.encoding.Turn.{Turn}
-use Rattle.stream_writer.specs.declared.stuffing.Out.{Out}
 use Rattle.stream.specs.declared.stuffing.Put.{Put}
 use Rattle.stream.specs.declared.stuffing.Put.the-variants.{Part, Word}
 use Rattle.stream.specs.Below.{Bytes}
@@ -18,6 +16,8 @@ use Rattle.stream.specs.PutLaws.{start}
 use Rattle.stream.specs.StuffingLaws.{fill-none}
 use Rattle.stream.specs.StreamLaws.{stream-end}
 use Rattle.stream.specs.StreamLength.{bits-length}
+use Rattle.stream_writer.specs.declared.encoding.Turn.{Turn}
+use Rattle.stream_writer.specs.declared.stuffing.Out.{Out}
 use Rattle.stream_writer.specs.Writing.{Coded, Wrote, coded-none, coded-then}
 
 -- the words that a message takes in words of B bits. A message of more than 4,992 bytes fits no shape, since every byte takes at least

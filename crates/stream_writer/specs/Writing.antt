@@ -10,11 +10,11 @@ use lib.Seq.{sets}
 use lib.Pow.{shr-shr}
 use Rattle.stream.specs.declared.stuffing.Put.{Put}
 use Rattle.stream.specs.declared.stuffing.Put.the-variants.{Part, Word}
-use Rattle.stream_writer.specs.declared.stuffing.Out.{Out}
 use Rattle.stream.specs.Bits.{bits, bits-snoc}
 use Rattle.stream.specs.Stuffing.{put, after, fill, finish, stuffFrom, stuff}
 use Rattle.stream.specs.PutLaws.{State, Fits, put-fits, part-state, part-grows, start}
 use Rattle.stream.specs.StuffingLaws.{fill-none, fill-more}
+use Rattle.stream_writer.specs.declared.stuffing.Out.{Out}
 
 -- the bits t are written: from n words and k bits that say v, with the buffer a, to n′, k′, v′ and a′
 pub record Coded (h : ℕ) (t : List ℕ) (n k v : ℕ) (a : List ℕ) (n′ k′ v′ : ℕ) (a′ : List ℕ) : Type 0 where

@@ -6,8 +6,8 @@ use Prim.Native.Nat.{_+_, _*_, _-_, _≤_}
 use native.Mathlib.Nat.{le-refl}
 use native.Mathlib.Omega.{arith}
 use lib.ListN.{length, getD, drop, drop-of-length-le}
-use Rattle.stream_reader.specs.Places.{length-at, word-length-most}
 use Rattle.stream.specs.Stuffing.{unstuffFrom}
+use Rattle.stream_reader.specs.Places.{length-at, word-length-most}
 use Rattle.stream_reader.proofs.reading.stream_length.Statement.{statement}
 use Rattle.stream_reader.proofs.reading.stream_length.Tie as tie
 
