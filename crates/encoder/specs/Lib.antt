@@ -2,3 +2,5 @@ pub mod Plan
 pub mod PlanLaws
 pub mod ModeMessage
 pub mod Encode
+pub mod Fitting
+pub mod ModeLaws

@@ -15,7 +15,7 @@ use Rattle.stream.specs.Below.{Bytes}
 use Rattle.stream.specs.Stream.{bitsOf}
 use Rattle.stream.specs.Stuffing.{stuff}
 use Rattle.stream.specs.StreamLength.{words-of-message}
-use Rattle.stream.specs.Encoding.{wordsNeeded}
+use Rattle.stream_writer.specs.Encoding.{wordsNeeded}
 use Rattle.symbol.specs.Shapes.{side, bits, wordSize, words, mostWords, isFull, layers}
 use Rattle.encoder.specs.declared.Encoded.{Encoded}
 use Rattle.encoder.specs.Plan.{dataWords, leastCheck, fits, listed, firstFrom, fitsListed, planned}

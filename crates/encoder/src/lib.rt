@@ -2,6 +2,7 @@
 ghost use mathlib.Core.Path.{_≡_};
 ghost use Rattle.encoder.specs.Plan.{planOf};
 
+pub mod mode;
 pub mod planning;
 
 // What an encoder's entry answers: a number, and after 0 the shape's number, the side, D and K. Any other number has zeros beside it.

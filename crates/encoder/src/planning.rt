@@ -1,10 +1,10 @@
 // The first listed shape that a message fits.
 use crate::Encoded;
-use stream::encoding;
+use stream_writer::encoding;
 use symbol::shapes;
 ghost use mathlib.Core.Path.{_≡_};
 ghost use Prim.Native.Nat.{_-_, _≤_, _<_};
-ghost use Rattle.stream.specs.Encoding.{wordsNeeded};
+ghost use Rattle.stream_writer.specs.Encoding.{wordsNeeded};
 ghost use Rattle.symbol.specs.Shapes as shapes;
 ghost use Rattle.encoder.specs.Plan as spec;
 ghost use Rattle.encoder.specs.PlanLaws.{chosen};

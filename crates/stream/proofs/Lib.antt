@@ -1,7 +1,1 @@
 pub mod CodeTables
-pub mod Turns
-pub mod WordParts
-pub mod ItemParts
-pub mod Passes
-pub mod Storing
-pub mod Filling

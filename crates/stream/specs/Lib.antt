@@ -13,12 +13,7 @@ pub mod StuffingLaws
 pub mod LastWord
 pub mod StreamLaws
 pub mod StreamLength
-pub mod Writing
-pub mod Encoding
 pub mod ItemLaws
 pub mod ReadingLaws
 pub mod RoundTrip
-pub mod Places
-pub mod Scan
 pub mod Examples
-pub mod Written

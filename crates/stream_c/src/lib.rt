@@ -6,9 +6,9 @@ ghost use lib.ListN.{length};
 ghost use lib.Seq.{sets};
 ghost use Rattle.stream.specs.Stream.{bitsOf};
 ghost use Rattle.stream.specs.Stuffing.{stuff};
-ghost use Rattle.stream.specs.Encoding.{wordsNeeded};
+ghost use Rattle.stream_writer.specs.Encoding.{wordsNeeded};
 ghost use Rattle.stream.specs.Items.{judge, verdictOf};
-ghost use Rattle.stream.specs.Written.{Room, written};
+ghost use Rattle.stream_reader.specs.Written.{Room, written};
 ghost use Rattle.stream_c.specs.Judged.{judgedOf};
 use stream::items::Verdict;
 
@@ -17,7 +17,7 @@ pub extern "C" fn stream_count(message: &[u8], word_size: u32) -> usize
     requires { ⌜ (2 ≤ «word_size») × («word_size» ≤ 12) ⌝ }
     ensures { λ r. ⌜ r ≡ wordsNeeded «word_size» (now (message .entry)) ⌝ }
 {
-    stream::encoding::count_words(message, word_size as usize)
+    stream_writer::encoding::count_words(message, word_size as usize)
 }
 
 #[no_mangle]
@@ -25,7 +25,7 @@ pub extern "C" fn stream_write(message: &[u8], word_size: u32, words: &mut [u16]
     requires { ⌜ (2 ≤ «word_size») × («word_size» ≤ 12) × (length (now message) ≤ 4992) ⌝ }
     ensures { λ r. ⌜ (r ≡ length (stuff «word_size» (bitsOf (now (message .entry))))) × (now (words .exit) ≡ sets (now (words .entry)) 0 (stuff «word_size» (bitsOf (now (message .entry))))) ⌝ }
 {
-    stream::encoding::write_words(message, word_size as usize, words)
+    stream_writer::encoding::write_words(message, word_size as usize, words)
 }
 
 // 0 and the message's length, or the number that refuses and the bit place of the item at fault.
@@ -55,7 +55,7 @@ pub extern "C" fn stream_judge(words: &[u16], word_size: u32) -> Judged
     requires { ⌜ 2 ≤ «word_size» ⌝ ∗ ⌜ «word_size» ≤ 12 ⌝ ∗ ⌜ length (now words) ≤ 65536 ⌝ }
     ensures { λ r. ⌜ r ≡ judgedOf (verdictOf (judge «word_size» (now (words .entry)))) ⌝ }
 {
-    numbers_of(stream::message::judge(words, word_size as usize))
+    numbers_of(stream_reader::message::judge(words, word_size as usize))
 }
 
 #[no_mangle]
@@ -64,5 +64,5 @@ pub extern "C" fn stream_message(words: &[u16], word_size: u32, message: &mut [u
     requires { ⌜ Room (judge «word_size» (now words)) (now message) ⌝ }
     ensures { λ _. ⌜ now (message .exit) ≡ written (judge «word_size» (now (words .entry))) (now (message .entry)) ⌝ }
 {
-    stream::message::write_message(words, word_size as usize, message)
+    stream_reader::message::write_message(words, word_size as usize, message)
 }

@@ -2,7 +2,7 @@
 -- Assumes nothing.
 use borrow.Author.Needs.{needs}
 use mathlib.Core.Path.{sym, ap, _∙_}
-use Rattle.stream.specs.Encoding.{wordsNeeded}
+use Rattle.stream_writer.specs.Encoding.{wordsNeeded}
 use Rattle.encoder.proofs.planning.count_at.Statement.{statement}
 use Rattle.encoder.proofs.planning.count_at.Tie as tie
 

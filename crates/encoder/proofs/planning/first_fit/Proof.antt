@@ -7,7 +7,7 @@ use Prim.Native.Nat.{ℕ, _+_, _-_, _≤_, _<_}
 use native.Mathlib.Omega.{arith}
 use lib.Dec.{ltb}
 use Rattle.stream.specs.Below.{Bytes, below-of}
-use Rattle.stream.specs.Encoding.{wordsNeeded}
+use Rattle.stream_writer.specs.Encoding.{wordsNeeded}
 use Rattle.encoder.specs.Plan.{fits, listed, firstFrom, fitsListed, plannedFor}
 use Rattle.encoder.specs.PlanLaws.{size-bounds, fit-words, first-here, first-next, first-none, Tried, tried-layers, tried-fits, tried-answer}
 use Rattle.encoder.proofs.planning.first_fit.Statement.{statement}
