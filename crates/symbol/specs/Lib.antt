@@ -7,3 +7,4 @@ pub mod Drawing
 pub mod Positions
 pub mod ShapeTable
 pub mod GridWords
+pub mod Walk

@@ -3,6 +3,7 @@
 use mathlib.Core.Path.{_≡_, refl}
 use mathlib.Core.Bool.{Bool, true, false, cond}
 use Prim.Native.Nat.{ℕ, zero, suc, _+_, _*_, _-_, _/_, _%_, _^_, _≤_, _<_}
+use native.Mathlib.Nat.{mul-le-mul, le-trans}
 use native.Mathlib.Omega.{arith}
 use lib.Dec.{ltb, leb}
 
@@ -66,3 +67,22 @@ mostLayers true = 32
 pub record Shaped (f : Bool) (L : ℕ) : Type 0 where
   pub some : 1 ≤ L
   pub most : L ≤ mostLayers f
+
+-- the largest symbol has the most bits
+pub bits-below : (a L : ℕ) → a ≤ 112 → L ≤ 32 → (a + 16 * L) * L ≤ 19968
+bits-below a L h k = le-trans (mul-le-mul {n₁ = a + 16 * L} {m₁ = L} {n₂ = 624} {m₂ = 32} (omega arith) k) (omega arith)
+
+pub bits-most : (f : Bool) (L : ℕ) → L ≤ 32 → bits f L ≤ 19968
+unfolding bits
+bits-most false L h = bits-below 88 L (omega arith) h
+bits-most true L h = bits-below 112 L (omega arith) h
+
+pub word-size-range : (L : ℕ) → (6 ≤ wordSize L) × (wordSize L ≤ 12)
+unfolding wordSize
+word-size-range L = go (leb L 2) (leb L 8) (leb L 22)
+  where
+    go : (a b c : Bool) → (6 ≤ cond a 6 (cond b 8 (cond c 10 12))) × (cond a 6 (cond b 8 (cond c 10 12)) ≤ 12)
+    go true b c = omega arith
+    go false true c = omega arith
+    go false false true = omega arith
+    go false false false = omega arith

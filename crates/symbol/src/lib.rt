@@ -1,1 +1,3 @@
 // The symbol (document 01, "Modules and shapes"): the 36 shapes, the places of modules, and how words are drawn there.
+pub mod places;
+pub mod shapes;
