@@ -20,25 +20,29 @@ pub fn turned_cell(p: usize, n: usize, row: usize, col: usize) -> Cell
     requires { ⌜ (row < n) × (col < n) × (p < 8) ⌝ }
     ensures { λ x. ⌜ (x .row ≡ turned p n row col .0) × (x .col ≡ turned p n row col .1) ⌝ }
 {
+    let below = n - 1 - row;
+    let right = n - 1 - col;
     match p {
-        0 => Cell { row: row, col: col },
-        1 => Cell { row: col, col: n - 1 - row },
-        2 => Cell { row: n - 1 - row, col: n - 1 - col },
-        3 => Cell { row: n - 1 - col, col: row },
-        4 => Cell { row: row, col: n - 1 - col },
-        5 => Cell { row: n - 1 - col, col: n - 1 - row },
-        6 => Cell { row: n - 1 - row, col: col },
+        0 => Cell { row, col },
+        1 => Cell { row: col, col: below },
+        2 => Cell { row: below, col: right },
+        3 => Cell { row: right, col: row },
+        4 => Cell { row, col: right },
+        5 => Cell { row: right, col: below },
+        6 => Cell { row: below, col },
         _ => Cell { row: col, col: row },
     }
 }
 
-// The place of a cell of the core square in a symbol of side n.
-fn core_place(full: bool, n: usize, x: Cell) -> usize
-    requires { ⌜ (2 * core full < n) × (n ≤ 151) × (x .row ≤ 2 * core full) × (x .col ≤ 2 * core full) ⌝ }
-    ensures { λ r. ⌜ (r ≡ corePlace full n (x .row, x .col)) × (r < n * n) ⌝ }
+// The place of a cell of the core square, after some quarter turns of the square, in a symbol of side n.
+fn core_place(full: bool, n: usize, turns: usize, row: usize, col: usize) -> u16
+    requires { ⌜ (2 * core full < n) × (n ≤ 151) × (turns < 4) × (row ≤ 2 * core full) × (col ≤ 2 * core full) ⌝ }
+    ensures { λ r. ⌜ r ≡ corePlace full n (turned turns (2 * core full + 1) row col) ⌝ }
 {
-    let edge = n / 2 - shapes::core_of(full);
-    (edge + x.row) * n + (edge + x.col)
+    let core = shapes::core_of(full);
+    let x = turned_cell(turns, 2 * core + 1, row, col);
+    let edge = n / 2 - core;
+    ((edge + x.row) * n + (edge + x.col)) as u16
 }
 
 // The places of the twelve orientation modules.
@@ -46,20 +50,28 @@ pub fn orientation_places(full: bool, n: usize, places: &mut [u16])
     requires { ⌜ (2 * core full < n) × (n ≤ 151) × (12 ≤ length (now places)) ⌝ }
     ensures { λ _. ⌜ now (places .exit) ≡ writes (now (places .entry)) (λ (k : ℕ). k) (orientationPlace full n) 12 ⌝ }
 {
-    let width = 2 * shapes::core_of(full) + 1;
     let mut k = 0;
     while k < 12 {
         let m = k % 3;
-        let x = turned_cell(k / 3, width, (3 - m) / 3, m / 2);
-        places[k] = core_place(full, n, x) as u16;
+        places[k] = core_place(full, n, k / 3, (3 - m) / 3, m / 2);
         k += 1;
     }
+}
+
+// The number of mode bits on one side.
+fn mode_run_of(full: bool) -> usize
+    ensures { λ r. ⌜ r ≡ modeRun full ⌝ }
+{
+    if full {
+        return 10;
+    }
+    7
 }
 
 // The column of mode bit j on the upper side, from the core square's corner.
 fn mode_column(full: bool, j: usize) -> usize
     requires { ⌜ j < modeRun full ⌝ }
-    ensures { λ r. ⌜ r ≡ modeColumn full j ⌝ }
+    ensures { λ r. ⌜ (r ≡ modeColumn full j) × (r ≤ 2 * core full) ⌝ }
 {
     if full {
         return 2 + j + j / 5;
@@ -72,11 +84,9 @@ fn mode_side(full: bool, n: usize, run: usize, s: usize, places: &mut [u16])
     requires { ⌜ (2 * core full < n) × (n ≤ 151) × (s < 4) × (run ≡ modeRun full) × (4 * modeRun full ≤ length (now places)) ⌝ }
     ensures { λ _. ⌜ now (places .exit) ≡ writes (now (places .entry)) (λ (j : ℕ). s * run + j) (λ (j : ℕ). modePlace full n (s * run + j)) run ⌝ }
 {
-    let width = 2 * shapes::core_of(full) + 1;
     let mut j = 0;
     while j < run {
-        let x = turned_cell(s, width, 0, mode_column(full, j));
-        places[s * run + j] = core_place(full, n, x) as u16;
+        places[s * run + j] = core_place(full, n, s, 0, mode_column(full, j));
         j += 1;
     }
 }
@@ -86,7 +96,7 @@ pub fn mode_places(full: bool, n: usize, places: &mut [u16])
     requires { ⌜ (2 * core full < n) × (n ≤ 151) × (4 * modeRun full ≤ length (now places)) ⌝ }
     ensures { λ _. ⌜ now (places .exit) ≡ writes (now (places .entry)) (λ (k : ℕ). k) (modePlace full n) (4 * modeRun full) ⌝ }
 {
-    let run = if full { 10 } else { 7 };
+    let run = mode_run_of(full);
     let mut s = 0;
     while s < 4 {
         mode_side(full, n, run, s, places);
@@ -105,16 +115,25 @@ fn spread_of(full: bool, layers: usize, a: usize) -> usize
     a
 }
 
+// The place of a cell of the square without reference lines, in a symbol of side n.
+fn place_of(full: bool, layers: usize, n: usize, row: usize, col: usize) -> u16
+    requires { ⌜ Shaped full layers ⌝ ∗ ⌜ (n ≡ side full layers) × (row < square full layers) × (col < square full layers) ⌝ }
+    ensures { λ r. ⌜ r ≡ spread full layers row * n + spread full layers col ⌝ }
+{
+    (spread_of(full, layers, row) * n + spread_of(full, layers, col)) as u16
+}
+
 // Bit b of domino j on side s of the outermost layer of a square: left, bottom, right, top.
 fn domino_cell(s: usize, square: usize, j: usize, b: usize) -> Cell
     requires { ⌜ (j < square) × (b < 2) × (2 ≤ square) × (s < 4) ⌝ }
     ensures { λ x. ⌜ (x .row ≡ domino s square j b .0) × (x .col ≡ domino s square j b .1) ⌝ }
 {
+    let last = square - 1;
     match s {
         0 => Cell { row: j, col: b },
-        1 => Cell { row: square - 1 - b, col: j },
-        2 => Cell { row: square - 1 - j, col: square - 1 - b },
-        _ => Cell { row: b, col: square - 1 - j },
+        1 => Cell { row: last - b, col: j },
+        2 => Cell { row: last - j, col: last - b },
+        _ => Cell { row: b, col: last - j },
     }
 }
 
@@ -130,7 +149,7 @@ pub struct Layer {
 // The places of the bits on side s of a layer.
 fn side_places(full: bool, layers: usize, layer: Layer, s: usize, places: &mut [u16])
     requires { ⌜ Shaped full layers ⌝ ∗ ⌜ Walked full layers layer ⌝ ∗ ⌜ (0 < layer .left) × (s < 4) × (bits full layers ≤ length (now places)) ⌝ }
-    ensures { λ _. ⌜ now (places .exit) ≡ writes (now (places .entry)) (λ (m : ℕ). layer .first + s * run layer + m) (λ (m : ℕ). dataPlace full layers (layer .first + s * run layer + m)) (run layer) ⌝ }
+    ensures { λ _. ⌜ now (places .exit) ≡ writes (now (places .entry)) (λ (m : ℕ). layer .first + (s * run layer + m)) (λ (m : ℕ). dataPlace full layers (layer .first + (s * run layer + m))) (run layer) ⌝ }
 {
     let n = shapes::side_of(full, layers);
     let run = 2 * (layer.square - 2);
@@ -138,9 +157,7 @@ fn side_places(full: bool, layers: usize, layer: Layer, s: usize, places: &mut [
     let mut m = 0;
     while m < run {
         let x = domino_cell(s, layer.square, m / 2, m % 2);
-        let row = spread_of(full, layers, layer.outer + x.row);
-        let col = spread_of(full, layers, layer.outer + x.col);
-        places[start + m] = (row * n + col) as u16;
+        places[start + m] = place_of(full, layers, n, layer.outer + x.row, layer.outer + x.col);
         m += 1;
     }
 }
