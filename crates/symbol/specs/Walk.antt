@@ -5,16 +5,87 @@ use mathlib.Core.Bool.{Bool, true, false}
 use Prim.Native.Nat.{ℕ, zero, suc, _+_, _*_, _-_, _/_, _%_, _≤_, _<_}
 use native.Mathlib.Omega.{arith}
 use Rattle.symbol.specs.declared.places.Layer.{Layer}
-use Rattle.symbol.specs.Shapes.{square, bits, Shaped}
-use Rattle.symbol.specs.Places.{cell}
-use Rattle.symbol.specs.Layers.{total}
+use Rattle.symbol.specs.Shapes.{side, square, bits, Shaped}
+use Rattle.symbol.specs.Places.{Cell, index, domino, layerCell, shifted, cell, spread, dataPlace}
+use Rattle.symbol.specs.Layers.{total, cell-outer, cell-inner}
+use Rattle.symbol.specs.DataPlaces.{index-row, index-col, rows-lt, bits-total, square-large, data-inside}
 
 -- the bits on one side of a layer
 abbrev pub run : Layer → ℕ
 run x = 2 * (x .square - 2)
 
+-- the bits from `first` on are those of the layers that are left
 pub record Walked (f : Bool) (L : ℕ) (x : Layer) : Type 0 where
   pub same : (i : ℕ) → cell (x .left) (x .square) (x .outer) i ≡ cell L (square f L) 0 (x .first + i)
   pub large : 11 + 4 * x .left ≤ x .square
   pub around : x .square + 2 * x .outer ≡ square f L
   pub count : x .first + total (x .left) (x .square) ≡ bits f L
+
+pub walked-first : (f : Bool) (L S : ℕ) → S ≡ square f L → Walked f L (record { left = L; square = S; outer = 0; first = 0 })
+walked-first f L S e =
+    record {
+      same = λ i. ap₂ (λ (S i : ℕ). cell L S 0 i) e (let z : i ≡ 0 + i = omega arith in z);
+      large = omega (arith, square-large f L);
+      around = omega arith;
+      count = ap (λ S. 0 + total L S) e ∙ (let z : 0 + total L (square f L) ≡ bits f L = omega (arith, bits-total f L) in z);
+    }
+
+next-cell : (l S o i : ℕ) → 0 < l → cell (l - 1) (S - 4) (o + 2) i ≡ cell l S o (8 * (S - 2) + i)
+next-cell zero S o i h = absurd (omega arith)
+next-cell (suc l) S o i h =
+    ap₂ (λ (l i : ℕ). cell l (S - 4) (o + 2) i) (let z : suc l - 1 ≡ l = omega arith in z)
+    (let z : i ≡ 8 * (S - 2) + i - 8 * (S - 2) = omega arith in z)
+    ∙ sym (cell-inner l S o (8 * (S - 2) + i) (omega arith))
+
+next-total : (l S : ℕ) → 0 < l → total l S ≡ 8 * (S - 2) + total (l - 1) (S - 4)
+unfolding total
+next-total zero S h = absurd (omega arith)
+next-total (suc l) S h = ap (λ l. 8 * (S - 2) + total l (S - 4)) (let z : l ≡ suc l - 1 = omega arith in z)
+
+first-cell : (l S o i : ℕ) → 0 < l → i < 8 * (S - 2) → cell l S o i ≡ shifted o (layerCell S i)
+first-cell zero S o i h k = absurd (omega arith)
+first-cell (suc l) S o i h k = cell-outer l S o i k
+
+module _ {f : Bool} {L : ℕ} {x : Layer} (w : Walked f L x) (some : 0 < x .left) where
+  abbrev inward : Layer
+  inward = record { left = x .left - 1; square = x .square - 4; outer = x .outer + 2; first = x .first + 8 * (x .square - 2) }
+
+  pub walked-next : Walked f L inward
+  walked-next =
+      record {
+        same =
+          λ i. next-cell (x .left) (x .square) (x .outer) i some
+          ∙ w .same (8 * (x .square - 2) + i)
+          ∙ ap (cell L (square f L) 0)
+          (let z : x .first + (8 * (x .square - 2) + i) ≡ x .first + 8 * (x .square - 2) + i = omega arith in z);
+        large = omega (arith, w .large);
+        around = omega (arith, w .large, w .around);
+        count = omega (arith, w .count, next-total (x .left) (x .square) some);
+      }
+
+  pub walked-room : x .first + 4 * run x ≤ bits f L
+  walked-room = omega (arith, w .count, next-total (x .left) (x .square) some)
+
+  -- bit m on side s
+  module _ (s m : ℕ) (h : s < 4) (k : m < run x) where
+    abbrev here : Cell
+    here = domino s (x .square) (m / 2) (m % 2)
+
+    pub walked-index : x .first + (s * run x + m) < bits f L
+    walked-index = omega (arith, walked-room, rows-lt 4 (run x) s m h k)
+
+    walked-cell : cell L (square f L) 0 (x .first + (s * run x + m)) ≡ shifted (x .outer) here
+    unfolding layerCell
+    walked-cell =
+        sym (w .same (s * run x + m))
+        ∙ first-cell (x .left) (x .square) (x .outer) (s * run x + m) some (omega (arith, rows-lt 4 (run x) s m h k))
+        ∙ ap₂ (λ (s m : ℕ). shifted (x .outer) (domino s (x .square) (m / 2) (m % 2))) (index-row (run x) s m k) (index-col (run x) s m k)
+
+    pub walked-place : dataPlace f L (x .first + (s * run x + m)) ≡ index (side f L) (spread f L (x .outer + here .0), spread f L (x .outer + here .1))
+    unfolding dataPlace
+    walked-place = ap (λ (y : Cell). index (side f L) (spread f L (y .0), spread f L (y .1))) walked-cell
+
+    pub walked-inside : Shaped f L → (x .outer + here .0 < square f L) × (x .outer + here .1 < square f L)
+    walked-inside sh =
+        let i = data-inside f L sh (x .first + (s * run x + m)) walked-index in
+        (omega (arith, i .row-lt, ap (λ (y : Cell). y .0) walked-cell), omega (arith, i .col-lt, ap (λ (y : Cell). y .1) walked-cell))
