@@ -2,13 +2,31 @@
 -- Assumes nothing.
 use mathlib.Core.Path.{_≡_, refl, sym, ap, ap₂, _∙_, subst}
 use mathlib.Core.Bool.{Bool, true, false}
+use mathlib.Core.List.{List}
 use Prim.Native.Nat.{ℕ, zero, suc, _+_, _*_, _-_, _/_, _%_, _≤_, _<_}
 use native.Mathlib.Omega.{arith}
+use lib.ListN.{length, getD}
+use Rattle.list_laws.specs.Writes.{writes, length-writes, writes-same}
 use Rattle.symbol.specs.declared.places.Layer.{Layer}
 use Rattle.symbol.specs.Shapes.{side, square, bits, Shaped}
 use Rattle.symbol.specs.Places.{Cell, index, domino, layerCell, shifted, cell, spread, dataPlace}
 use Rattle.symbol.specs.Layers.{total, cell-outer, cell-inner}
 use Rattle.symbol.specs.DataPlaces.{index-row, index-col, rows-lt, bits-total, square-large, data-inside}
+
+-- a table of where the rows or columns of the square stand among all
+pub record Lined (f : Bool) (L : ℕ) (lines : List ℕ) : Type 0 where
+  pub long : square f L ≤ length lines
+  pub line : (a : ℕ) → a < square f L → getD lines a 0 ≡ spread f L a
+
+pub lined : (f : Bool) (L : ℕ) (l : List ℕ) {lines : List ℕ} → square f L ≤ length l → lines ≡ writes l (λ a. a) (spread f L) (square f L)
+    → Lined f L lines
+lined f L l h e =
+    record {
+      long = omega (arith, ap length e ∙ length-writes l (λ a. a) (spread f L) (square f L));
+      line =
+        λ a k. ap (λ l. getD l a 0) e
+        ∙ writes-same 0 l (λ a. a) (spread f L) (square f L) (λ i j x y z. z) (λ i x. omega arith) a k;
+    }
 
 -- the bits on one side of a layer
 abbrev pub run : Layer → ℕ

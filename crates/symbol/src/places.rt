@@ -3,11 +3,11 @@
 use crate::shapes;
 ghost use mathlib.Core.Path.{_≡_};
 ghost use Prim.Native.Nat.{ℕ, _+_, _*_, _-_, _/_, _≤_, _<_};
-ghost use lib.ListN.{length};
+ghost use lib.ListN.{length, getD};
 ghost use Rattle.list_laws.specs.Writes.{writes};
 ghost use Rattle.symbol.specs.Shapes.{side, square, bits, core, Shaped};
 ghost use Rattle.symbol.specs.Places.{turned, domino, spread, dataPlace, corePlace, orientationPlace, modeRun, modeColumn, modePlace};
-ghost use Rattle.symbol.specs.Walk.{Walked, run};
+ghost use Rattle.symbol.specs.Walk.{Lined, Walked, run};
 
 // A row and a column.
 pub struct Cell {
@@ -115,12 +115,28 @@ fn spread_of(full: bool, layers: usize, a: usize) -> usize
     a
 }
 
-// The place of a cell of the square without reference lines, in a symbol of side n.
-fn place_of(full: bool, layers: usize, n: usize, row: usize, col: usize) -> u16
-    requires { ⌜ Shaped full layers ⌝ ∗ ⌜ (n ≡ side full layers) × (row < square full layers) × (col < square full layers) ⌝ }
-    ensures { λ r. ⌜ r ≡ spread full layers row * n + spread full layers col ⌝ }
+// The same for each row or column: a table, so that no bit costs a division.
+fn spread_lines(full: bool, layers: usize) -> [u16; 142]
+    requires { ⌜ Shaped full layers ⌝ }
+    ensures { λ r. ⌜ Lined full layers r ⌝ }
 {
-    (spread_of(full, layers, row) * n + spread_of(full, layers, col)) as u16
+    let square = shapes::square_of(full, layers);
+    let mut lines = [0u16; 142];
+    let mut a = 0;
+    while a < square {
+        lines[a] = spread_of(full, layers, a) as u16;
+        a += 1;
+    }
+    lines
+}
+
+// The place of a cell of the square without reference lines, in a symbol of side n.
+fn place_of(lines: &[u16], n: usize, row: usize, col: usize) -> u16
+    requires { ⌜ (row < length (now lines)) × (col < length (now lines)) ⌝ }
+    requires { ⌜ (n ≤ 151) × (getD (now lines) row 0 < n) × (getD (now lines) col 0 < n) ⌝ }
+    ensures { λ r. ⌜ r ≡ getD (now (lines .entry)) row 0 * n + getD (now (lines .entry)) col 0 ⌝ }
+{
+    (lines[row] as usize * n + lines[col] as usize) as u16
 }
 
 // Bit b of domino j on side s of the outermost layer of a square: left, bottom, right, top.
@@ -147,8 +163,9 @@ pub struct Layer {
 }
 
 // The places of the bits on side s of a layer.
-fn side_places(full: bool, layers: usize, layer: Layer, s: usize, places: &mut [u16])
-    requires { ⌜ Shaped full layers ⌝ ∗ ⌜ Walked full layers layer ⌝ ∗ ⌜ (0 < layer .left) × (s < 4) × (bits full layers ≤ length (now places)) ⌝ }
+fn side_places(full: bool, layers: usize, lines: &[u16], layer: Layer, s: usize, places: &mut [u16])
+    requires { ⌜ Shaped full layers ⌝ ∗ ⌜ Lined full layers (now lines) ⌝ ∗ ⌜ Walked full layers layer ⌝ }
+    requires { ⌜ (0 < layer .left) × (s < 4) × (bits full layers ≤ length (now places)) ⌝ }
     ensures { λ _. ⌜ now (places .exit) ≡ writes (now (places .entry)) (λ (m : ℕ). layer .first + (s * run layer + m)) (λ (m : ℕ). dataPlace full layers (layer .first + (s * run layer + m))) (run layer) ⌝ }
 {
     let n = shapes::side_of(full, layers);
@@ -157,19 +174,20 @@ fn side_places(full: bool, layers: usize, layer: Layer, s: usize, places: &mut [
     let mut m = 0;
     while m < run {
         let x = domino_cell(s, layer.square, m / 2, m % 2);
-        places[start + m] = place_of(full, layers, n, layer.outer + x.row, layer.outer + x.col);
+        places[start + m] = place_of(lines, n, layer.outer + x.row, layer.outer + x.col);
         m += 1;
     }
 }
 
 // The places of a layer's bits, side by side.
-fn layer_places(full: bool, layers: usize, layer: Layer, places: &mut [u16])
-    requires { ⌜ Shaped full layers ⌝ ∗ ⌜ Walked full layers layer ⌝ ∗ ⌜ (0 < layer .left) × (bits full layers ≤ length (now places)) ⌝ }
+fn layer_places(full: bool, layers: usize, lines: &[u16], layer: Layer, places: &mut [u16])
+    requires { ⌜ Shaped full layers ⌝ ∗ ⌜ Lined full layers (now lines) ⌝ ∗ ⌜ Walked full layers layer ⌝ }
+    requires { ⌜ (0 < layer .left) × (bits full layers ≤ length (now places)) ⌝ }
     ensures { λ _. ⌜ now (places .exit) ≡ writes (now (places .entry)) (λ (m : ℕ). layer .first + m) (λ (m : ℕ). dataPlace full layers (layer .first + m)) (4 * run layer) ⌝ }
 {
     let mut s = 0;
     while s < 4 {
-        side_places(full, layers, layer, s, places);
+        side_places(full, layers, lines, layer, s, places);
         s += 1;
     }
 }
@@ -179,6 +197,7 @@ pub fn data_places(full: bool, layers: usize, places: &mut [u16])
     requires { ⌜ Shaped full layers ⌝ ∗ ⌜ bits full layers ≤ length (now places) ⌝ }
     ensures { λ _. ⌜ now (places .exit) ≡ writes (now (places .entry)) (λ (i : ℕ). i) (dataPlace full layers) (bits full layers) ⌝ }
 {
+    let lines = spread_lines(full, layers);
     let mut layer = Layer {
         left: layers,
         square: shapes::square_of(full, layers),
@@ -186,7 +205,7 @@ pub fn data_places(full: bool, layers: usize, places: &mut [u16])
         first: 0,
     };
     while 0 < layer.left {
-        layer_places(full, layers, layer, places);
+        layer_places(full, layers, &lines, layer, places);
         layer = Layer {
             left: layer.left - 1,
             square: layer.square - 4,
