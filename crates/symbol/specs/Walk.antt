@@ -11,7 +11,7 @@ use Rattle.symbol.specs.declared.places.Layer.{Layer}
 use Rattle.symbol.specs.Shapes.{side, square, bits, Shaped}
 use Rattle.symbol.specs.Places.{Cell, index, domino, layerCell, shifted, cell, spread, dataPlace}
 use Rattle.symbol.specs.Layers.{total, cell-outer, cell-inner}
-use Rattle.symbol.specs.DataPlaces.{index-row, index-col, rows-lt, bits-total, square-large, data-inside}
+use Rattle.symbol.specs.DataPlaces.{index-row, index-col, rows-lt, bits-total, square-large, spread-lt, data-inside}
 
 -- a table of where the rows or columns of the square stand among all
 pub record Lined (f : Bool) (L : ℕ) (lines : List ℕ) : Type 0 where
@@ -64,6 +64,27 @@ first-cell : (l S o i : ℕ) → 0 < l → i < 8 * (S - 2) → cell l S o i ≡ 
 first-cell zero S o i h k = absurd (omega arith)
 first-cell (suc l) S o i h k = cell-outer l S o i k
 
+-- the place that a table gives for a row and a column of the square, in a symbol of side n
+pub record Shown (lines : List ℕ) (n r c place : ℕ) : Type 0 where
+  pub row : r < length lines
+  pub col : c < length lines
+  pub row-lt : getD lines r 0 < n
+  pub col-lt : getD lines c 0 < n
+  pub is : getD lines r 0 * n + getD lines c 0 ≡ place
+
+shown : (f : Bool) (L : ℕ) {lines : List ℕ} {n : ℕ} (r c : ℕ) → Shaped f L → Lined f L lines → n ≡ side f L → r < square f L → c < square f L
+    → Shown lines n r c (index (side f L) (spread f L r, spread f L c))
+shown f L {lines} {n} r c sh t e h k =
+    let row = t .line r h in
+    let col = t .line c k in
+    record {
+      row = omega (arith, t .long);
+      col = omega (arith, t .long);
+      row-lt = omega (arith, spread-lt f L r sh h);
+      col-lt = omega (arith, spread-lt f L c sh k);
+      is = ap₂ (λ (a b : ℕ). a * n + b) row col ∙ ap (λ n. index n (spread f L r, spread f L c)) e;
+    }
+
 module _ {f : Bool} {L : ℕ} {x : Layer} (w : Walked f L x) (some : 0 < x .left) where
   abbrev inward : Layer
   inward = record { left = x .left - 1; square = x .square - 4; outer = x .outer + 2; first = x .first + 8 * (x .square - 2) }
@@ -99,11 +120,14 @@ module _ {f : Bool} {L : ℕ} {x : Layer} (w : Walked f L x) (some : 0 < x .left
         ∙ first-cell (x .left) (x .square) (x .outer) (s * run x + m) some (omega (arith, rows-lt 4 (run x) s m h k))
         ∙ ap₂ (λ (s m : ℕ). shifted (x .outer) (domino s (x .square) (m / 2) (m % 2))) (index-row (run x) s m k) (index-col (run x) s m k)
 
-    pub walked-place : dataPlace f L (x .first + (s * run x + m)) ≡ index (side f L) (spread f L (x .outer + here .0), spread f L (x .outer + here .1))
+    -- where domino_cell and the table put it
+    pub walked-place : Shaped f L → {lines : List ℕ} → Lined f L lines → {n r c : ℕ} → n ≡ side f L → (r ≡ here .0) × (c ≡ here .1)
+        → Shown lines n (x .outer + r) (x .outer + c) (dataPlace f L (x .first + (s * run x + m)))
     unfolding dataPlace
-    walked-place = ap (λ (y : Cell). index (side f L) (spread f L (y .0), spread f L (y .1))) walked-cell
-
-    pub walked-inside : Shaped f L → (x .outer + here .0 < square f L) × (x .outer + here .1 < square f L)
-    walked-inside sh =
+    walked-place sh {lines} t {n} {r} {c} e (p, q) =
         let i = data-inside f L sh (x .first + (s * run x + m)) walked-index in
-        (omega (arith, i .row-lt, ap (λ (y : Cell). y .0) walked-cell), omega (arith, i .col-lt, ap (λ (y : Cell). y .1) walked-cell))
+        let row : x .outer + r ≡ cell L (square f L) 0 (x .first + (s * run x + m)) .0 = omega (arith, ap (λ (y : Cell). y .0) walked-cell) in
+        let col : x .outer + c ≡ cell L (square f L) 0 (x .first + (s * run x + m)) .1 = omega (arith, ap (λ (y : Cell). y .1) walked-cell) in
+        subst (Shown lines n (x .outer + r) (x .outer + c))
+        (ap₂ (λ (a b : ℕ). index (side f L) (spread f L a, spread f L b)) row col)
+        (shown f L (x .outer + r) (x .outer + c) sh t e (omega (arith, i .row-lt)) (omega (arith, i .col-lt)))
