@@ -12,6 +12,10 @@ use Rattle.symbol.specs.Drawing.{PlacesFit, bitOf, wordsBit}
 use Rattle.symbol.specs.GridWords.{word-bit}
 use Rattle.symbol.specs.Tables.{fits-at}
 
+-- word w and its bits stand before the end
+pub word-room : (size skip : ℕ) (words : List ℕ) (w : ℕ) → w < length words → skip + w * size + size ≤ skip + length words * size
+word-room size skip words w h = omega (arith, mul-le-mul-right size h)
+
 module _ (size skip : ℕ) (places words : List ℕ) where
   -- the bits of n words, which come after the skipped
   abbrev pub wordsDrawn : List ℕ → ℕ → List ℕ
@@ -44,9 +48,6 @@ module _ (size skip : ℕ) (places words : List ℕ) where
       ∙ writes-join l (λ i. getD places i 0) (wordsBit size skip words) skip (w * size)
       ∙ ap (λ n. writes l (λ i. getD places i 0) (wordsBit size skip words) (skip + n * size)) all
 
-  module _ (w : ℕ) (h : w < length words) where
-    pub word-room : skip + w * size + size ≤ skip + length words * size
-    word-room = omega (arith, mul-le-mul-right size h)
-
-    pub word-fits : {room : ℕ} → PlacesFit places 0 (skip + length words * size) room → PlacesFit places (skip + w * size) size room
-    word-fits fit b k = fits-at places fit (skip + w * size + b) (omega (arith, word-room))
+  pub word-fits : (w : ℕ) {room : ℕ} → w < length words → PlacesFit places 0 (skip + length words * size) room
+      → PlacesFit places (skip + w * size) size room
+  word-fits w h fit b k = fits-at places fit (skip + w * size + b) (omega (arith, word-room size skip words w h))

@@ -27,21 +27,22 @@ fn larger(a: usize, b: usize) -> usize
     a
 }
 
-// The module at distances x and y from the centre.
+// The module at distances x and y from the centre: dark, 1, on even rings of the target and at even places of a reference line.
 fn fixed_at(full: bool, x: usize, y: usize) -> u8
     requires { ⌜ (x < 1000) × (y < 1000) ⌝ }
     ensures { λ r. ⌜ r ≡ fixedAt full x y ⌝ }
 {
     let distance = larger(x, y);
     if distance < shapes::core_of(full) {
-        return (1 - distance % 2) as u8;
+        return ((distance + 1) % 2) as u8;
     }
     if full {
+        let line = ((x + y + 1) % 2) as u8;
         if x % 16 == 0 {
-            return (1 - (x + y) % 2) as u8;
+            return line;
         }
         if y % 16 == 0 {
-            return (1 - (x + y) % 2) as u8;
+            return line;
         }
     }
     0

@@ -1,3 +1,5 @@
+-- The first c modules of the row stand at their places.
+-- Assumes nothing.
 use borrow.Author.Needs.{needs}
 use mathlib.Core.Path.{_≡_, refl, ap, _∙_}
 use Prim.Native.Nat.{_+_, _*_, _-_, _≤_, _<_}
@@ -80,7 +82,8 @@ same-length c = search needs
 
 returns : tie.Need-returns Inv-loop μ-loop
 returns c =
-    let e : c .before .loop .c ≡ side (c .before .before .before .before .before .args .full) (c .before .before .before .before .before .args .layers) = omega arith in
+    let a = c .before .before .before .before .before .args in
+    let e : c .before .loop .c ≡ side (a .full) (a .layers) = omega arith in
     c .before .loop .inv .2 ∙ ap (writes _ _ _) e
 
 pub draw-row-spec : {M : Type 1} → statement M

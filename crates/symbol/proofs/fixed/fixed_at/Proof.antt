@@ -11,6 +11,9 @@ use Rattle.symbol.specs.Places.{target, reference, fixedAt}
 use Rattle.symbol.proofs.fixed.fixed_at.Statement.{statement}
 use Rattle.symbol.proofs.fixed.fixed_at.Tie as tie
 
+even : (n : ℕ) → (n + 1) % 2 ≡ 1 - n % 2
+even n = omega arith
+
 module _ (f : Bool) (x y : ℕ) where
   within : max x y < core f → fixedAt f x y ≡ 1 - max x y % 2
   unfolding fixedAt target
@@ -46,8 +49,8 @@ larger-requires c κs = search needs
 core-of-requires : tie.Need-core-of-requires
 core-of-requires c κs = search needs
 
-sub-result : tie.Need-sub-result
-sub-result c = search needs
+add-result : tie.Need-add-result
+add-result c = search needs
 
 cast-result : tie.Need-cast-result
 cast-result c = search needs
@@ -55,40 +58,36 @@ cast-result c = search needs
 returns : tie.Need-returns
 returns c =
     let a = c .before .before .before .args in
-    ap (λ d. 1 - d % 2) (c .before .before .larger .ensures) ∙ sym (within (a .full) (a .x) (a .y) (omega arith))
+    even (c .before .before .larger .result)
+    ∙ ap (λ d. 1 - d % 2) (c .before .before .larger .ensures)
+    ∙ sym (within (a .full) (a .x) (a .y) (omega arith))
 
-add-result : tie.Need-add-result
-add-result c = search needs
+add-line : tie.Need-add-line
+add-line c = search needs
 
-sub-result-2 : tie.Need-sub-result-2
-sub-result-2 c = search needs
+add-line-2 : tie.Need-add-line-2
+add-line-2 c = search needs
 
-cast-result-2 : tie.Need-cast-result-2
-cast-result-2 c = search needs
+cast-line : tie.Need-cast-line
+cast-line c = search needs
 
 returns-2 : tie.Need-returns-2
 returns-2 c =
     let a = c .before .before .before .before .before .args in
-    sym (column (a .full) (a .x) (a .y) (far (c .before .before)) (c .before .if2 .taken) (c .if3 .taken))
-
-add-result-2 : tie.Need-add-result-2
-add-result-2 c = search needs
-
-sub-result-3 : tie.Need-sub-result-3
-sub-result-3 c = search needs
-
-cast-result-3 : tie.Need-cast-result-3
-cast-result-3 c = search needs
+    even (a .x + a .y) ∙ sym (column (a .full) (a .x) (a .y) (far (c .before .before)) (c .before .if2 .taken) (c .if3 .taken))
 
 returns-3 : tie.Need-returns-3
 returns-3 c =
-    let a = c .before .before .before .before .before .before .args in
-    sym (row (a .full) (a .x) (a .y) (far (c .before .before .before)) (c .before .before .if2 .taken) (c .before .if3 .left) (c .if4 .taken))
+    let e = c .before .before .before in
+    let a = e .before .before .before .args in
+    even (a .x + a .y)
+    ∙ sym (row (a .full) (a .x) (a .y) (far e) (c .before .before .if2 .taken) (c .before .if3 .left) (c .if4 .taken))
 
 returns-4 : tie.Need-returns-4
 returns-4 c =
-    let a = c .before .before .before .before .before .before .args in
-    sym (off (a .full) (a .x) (a .y) (far (c .before .before .before)) (c .before .before .if2 .taken) (c .before .if3 .left) (c .if4 .left))
+    let e = c .before .before .before in
+    let a = e .before .before .before .args in
+    sym (off (a .full) (a .x) (a .y) (far e) (c .before .before .if2 .taken) (c .before .if3 .left) (c .if4 .left))
 
 returns-5 : tie.Need-returns-5
 returns-5 c =
@@ -101,16 +100,13 @@ fixed-at-spec =
     (tie.spec
     larger-requires
     core-of-requires
-    sub-result
+    add-result
     cast-result
     returns
-    add-result
-    sub-result-2
-    cast-result-2
+    add-line
+    add-line-2
+    cast-line
     returns-2
-    add-result-2
-    sub-result-3
-    cast-result-3
     returns-3
     returns-4
     returns-5)
