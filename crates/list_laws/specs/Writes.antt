@@ -41,6 +41,12 @@ module _ {A : Type 0} where
   writes-join l p v n (suc m) =
       ap (λ b. set b (p (n + m)) (v (n + m))) (writes-join l p v n m) ∙ ap (writes l p v) (sym (add-suc n m))
 
+  -- one turn of such a loop: the list b, written up to n, with m values more
+  pub writes-more : (l : List A) (p : ℕ → ℕ) (v : ℕ → A) (n m k : ℕ) {b c : List A}
+      → b ≡ writes l p v n → c ≡ writes b (λ k. p (n + k)) (λ k. v (n + k)) m → n + m ≡ k → c ≡ writes l p v k
+  writes-more l p v n m k e f g =
+      f ∙ ap (λ b. writes b (λ k. p (n + k)) (λ k. v (n + k)) m) e ∙ writes-join l p v n m ∙ ap (writes l p v) g
+
   pub writes-cong : (l : List A) (p q : ℕ → ℕ) (v w : ℕ → A) (n : ℕ) → ((i : ℕ) → i < n → p i ≡ q i) → ((i : ℕ) → i < n → v i ≡ w i)
       → writes l p v n ≡ writes l q w n
   unfolding writes

@@ -4,7 +4,7 @@ use mathlib.Core.Path.{_≡_, refl, sym, ap, ap₂, _∙_, subst}
 use mathlib.Core.Logic.{_≢_}
 use mathlib.Core.Bool.{Bool, true, false}
 use Prim.Native.Nat.{ℕ, zero, suc, _+_, _*_, _-_, _/_, _%_, _≤_, _<_}
-use native.Mathlib.Nat.{div-add-mod', mul-add-div-right, mul-add-mod-self-right, mod-eq-of-lt, div-eq-of-lt, add-zero, mul-le-mul-right}
+use native.Mathlib.Nat.{div-add-mod', mul-add-div-right, mul-add-mod-self-right, mod-eq-of-lt, div-eq-of-lt, add-zero, mul-le-mul, mul-le-mul-right, lt-of-lt-of-le}
 use native.Mathlib.Omega.{arith}
 use Rattle.symbol.specs.Shapes.{side, square, bits, core, centre, mostLayers, Shaped}
 use Rattle.symbol.specs.Places.{Cell, cell, spread, gap, dataPlace}
@@ -17,8 +17,15 @@ index-row n r c h = mul-add-div-right (let z : 0 < n = omega arith in z) r c ∙
 pub index-col : (n r c : ℕ) → c < n → (r * n + c) % n ≡ c
 index-col n r c h = mul-add-mod-self-right r n c ∙ mod-eq-of-lt h
 
+pub rows-lt : (k n r c : ℕ) → r < k → c < n → r * n + c < k * n
+rows-lt k n r c h l = omega (arith, mul-le-mul-right n h)
+
 pub index-lt : (n r c : ℕ) → r < n → c < n → r * n + c < n * n
-index-lt n r c h k = omega (arith, mul-le-mul-right n h)
+index-lt n = rows-lt n n
+
+-- a place of the largest symbol
+pub index-small : (n r c : ℕ) → n ≤ 151 → r < n → c < n → r * n + c < 22801
+index-small n r c m h k = lt-of-lt-of-le (index-lt n r c h k) (mul-le-mul {n₁ = n} {m₁ = n} {n₂ = 151} {m₂ = 151} m m)
 
 pub index-back : (n k : ℕ) → k / n * n + k % n ≡ k
 index-back n k = div-add-mod' k n

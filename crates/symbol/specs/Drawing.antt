@@ -18,6 +18,10 @@ use Rattle.symbol.specs.Places.{orientationPlace, modeRun, modePlace, da
 use Rattle.symbol.specs.DataPlaces.{data-lt, data-one}
 use Rattle.symbol.specs.CorePlaces.{orientation-lt, mode-lt, orientation-one, mode-one, mode-orientation, core-room, data-orientation, data-mode}
 
+-- the places of a table from one on lie inside a buffer of so many modules
+abbrev pub PlacesFit : List ℕ → ℕ → ℕ → ℕ → Type 0
+PlacesFit places from n room = (i : ℕ) → i < n → getD places (from + i) 0 < room
+
 -- bit j of a word of b bits, "each higher bit first"
 unfoldable pub bitOf : ℕ → ℕ → ℕ → ℕ
 bitOf b x j = x / 2 ^ (b - (j + 1)) % 2

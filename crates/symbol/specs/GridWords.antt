@@ -91,6 +91,12 @@ word-bit B skip ws w b h =
     rest : skip + (w * B + b) - skip ≡ w * B + b
     rest = omega arith
 
+-- the skipped bits and the words are all bits
+pub block-bits : (f : Bool) (L : ℕ) {skip n B : ℕ} → skip ≡ skipped f L → n ≡ words f L → B ≡ wordSize L → skip + n * B ≡ bits f L
+unfolding words skipped
+block-bits f L {skip} {n} {B} s e b =
+    ap₂ (λ (x y : ℕ). x + y) s (ap₂ (λ (x y : ℕ). x * y) e b) ∙ omega (arith, div-add-mod' (bits f L) (wordSize L))
+
 pub block-index : (f : Bool) (L w b : ℕ) → w < words f L → b < wordSize L → skipped f L + (w * wordSize L + b) < bits f L
 unfolding words skipped
 block-index f L w b h k = omega (arith, div-add-mod' (bits f L) (wordSize L), mul-le-mul-right (wordSize L) h)

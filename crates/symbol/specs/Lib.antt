@@ -7,3 +7,5 @@ pub mod Drawing
 pub mod Positions
 pub mod ShapeTable
 pub mod GridWords
+pub mod Walk
+pub mod Tables

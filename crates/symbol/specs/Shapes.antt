@@ -68,6 +68,11 @@ pub record Shaped (f : Bool) (L : ℕ) : Type 0 where
   pub some : 1 ≤ L
   pub most : L ≤ mostLayers f
 
+pub core-range : (f : Bool) → (5 ≤ core f) × (core f ≤ 7)
+unfolding core
+core-range false = omega arith
+core-range true = omega arith
+
 -- the largest symbol has the most bits
 pub bits-below : (a L : ℕ) → a ≤ 112 → L ≤ 32 → (a + 16 * L) * L ≤ 19968
 bits-below a L h k = le-trans (mul-le-mul {n₁ = a + 16 * L} {m₁ = L} {n₂ = 624} {m₂ = 32} (omega arith) k) (omega arith)
