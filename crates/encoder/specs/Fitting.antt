@@ -8,12 +8,13 @@ use Prim.Native.Nat.{ℕ, zero, suc, _+_, _*_, _-_, _/_, _^_, _≤_, _<_}
 use native.Mathlib.Nat.{mul-le-mul-right, le-trans, div-add-mod'}
 use native.Mathlib.Omega.{arith}
 use lib.Dec.{eqb, ltb, leb, leb→le}
-use lib.ListN.{length, getD, length-append}
+use lib.ListN.{length, getD, take, drop, length-append}
+use lib.Seq.{sets, sets-eq, take-at}
 use borrow.Author.Tests.{eqb-false, ltb-true, ltb-false}
 use Rattle.list_laws.specs.Tests.{both-parts, holds}
 use Rattle.finite_field.specs.Field as field
 use Rattle.reed_solomon.specs.Block.{Words, Valid}
-use Rattle.reed_solomon.specs.CheckWords.{checkWords}
+use Rattle.reed_solomon.specs.CheckWords.{checkWords, withCheckWords}
 use Rattle.reed_solomon.specs.CheckWordsLaws.{length-check-words, check-words-valid}
 use Rattle.reed_solomon.specs.WordLists.{words-below}
 use Rattle.stream.specs.Below.{Bytes}
@@ -21,10 +22,10 @@ use Rattle.stream.specs.Stream.{bitsOf}
 use Rattle.stream.specs.Stuffing.{stuff}
 use Rattle.stream.specs.StuffingLaws.{stuffed-codewords, codeword-at}
 use Rattle.stream.specs.StreamLength.{words-of-message, message-bits}
-use Rattle.symbol.specs.Shapes.{bits, wordSize, words, mostWords, mostLayers, isFull, layers, Shaped}
+use Rattle.symbol.specs.Shapes.{bits, wordSize, words, mostWords, mostLayers, isFull, layers, Shaped, bits-most, word-size-range}
 use Rattle.encoder.specs.declared.Encoded.{Encoded}
 use Rattle.encoder.specs.Plan.{dataWords, leastCheck, fits, listed, firstFrom, fitsListed, planned, plannedFor, refused, planOf}
-use Rattle.encoder.specs.PlanLaws.{size-bounds, bits-most, listed-bounds, layers-most}
+use Rattle.encoder.specs.PlanLaws.{listed-bounds, layers-most}
 use Rattle.encoder.specs.Encode.{block}
 
 pub record Fitting (message : List ℕ) (f : Bool) (L D : ℕ) : Type 0 where
@@ -107,7 +108,7 @@ fitting message percent x p =
     let D = length (dataWords message L) in
     let tests = both-parts (leb (D + leastCheck percent (words f L)) (words f L)) (leb D (mostWords f)) (holds (p .fit)) in
     let enough = leb→le (D + leastCheck percent (words f L)) (words f L) (tests .0) in
-    let size = size-bounds L in
+    let size = word-size-range L in
     let sh = listed-shaped (p .place) (p .in-list) in
     let bytes = words-of-message (wordSize L) (omega (arith, size)) message x in
     record {
@@ -143,7 +144,7 @@ pub data-words : (message : List ℕ) (L : ℕ) → Words (field.sizeOf (wordSiz
 unfolding dataWords
 data-words message L =
     let ws = stuff (wordSize L) (bitsOf message) in
-    let good = stuffed-codewords (wordSize L) (omega (arith, size-bounds L)) (bitsOf message) (message-bits message) in
+    let good = stuffed-codewords (wordSize L) (omega (arith, word-size-range L)) (bitsOf message) (message-bits message) in
     words-below (field.sizeOf (wordSize L)) ws (length ws) refl
     (λ i h. subst (λ b. getD ws i 0 < 2 ^ b) (sym (size-is L)) (codeword-at (wordSize L) ws good i h .fits))
 
@@ -159,3 +160,15 @@ length-block message f L h =
     length-append (dataWords message L) _
     ∙ ap (λ n. length (dataWords message L) + n) (length-check-words (field.sizeOf (wordSize L)) (words f L - length (dataWords message L)) (dataWords message L))
     ∙ omega arith
+
+-- the data words, stored at the front of a block that is long enough
+pub front-written : (l ws : List ℕ) → length ws ≤ length l → take (length ws) (sets l 0 ws) ≡ ws
+front-written l ws h = ap (take (length ws)) (sets-eq ws l 0 (omega arith)) ∙ take-at ws (drop (0 + length ws) l) (length ws) refl
+
+-- a block as long as its shape says, whose first words are the message's, with check words
+pub block-filled : (message : List ℕ) (f : Bool) (L D : ℕ) (l : List ℕ) → D ≡ length (dataWords message L) → take D l ≡ dataWords message L
+    → length l ≡ words f L → withCheckWords (field.sizeOf (wordSize L)) D l ≡ block message f L
+unfolding block
+block-filled message f L D l d e n =
+    ap (λ ws. ws ++ checkWords (field.sizeOf (wordSize L)) (length l - D) ws) e
+    ∙ ap₂ (λ m k. dataWords message L ++ checkWords (field.sizeOf (wordSize L)) (m - k) (dataWords message L)) n d

@@ -4,3 +4,4 @@ pub mod ModeMessage
 pub mod Encode
 pub mod Fitting
 pub mod ModeLaws
+pub mod EncodeLaws

@@ -16,28 +16,13 @@ use Rattle.stream.specs.Stream.{bitsOf}
 use Rattle.stream.specs.Stuffing.{stuff}
 use Rattle.stream.specs.StreamLength.{words-of-message}
 use Rattle.stream_writer.specs.Encoding.{wordsNeeded}
-use Rattle.symbol.specs.Shapes.{side, bits, wordSize, words, mostWords, isFull, layers}
+use Rattle.symbol.specs.Shapes.{side, bits, wordSize, words, mostWords, isFull, layers, bits-most, word-size-range}
 use Rattle.encoder.specs.declared.Encoded.{Encoded}
 use Rattle.encoder.specs.Plan.{dataWords, leastCheck, fits, listed, firstFrom, fitsListed, planned}
 
 -- the answer for D words in a shape
 abbrev pub chosen : ℕ → Bool → ℕ → ℕ → Encoded
 chosen s f L D = record { number = 0; shape = s; side = side f L; «data_words» = D; «check_words» = words f L - D }
-
-pub size-bounds : (L : ℕ) → (6 ≤ wordSize L) × (wordSize L ≤ 12)
-unfolding wordSize
-size-bounds L = go (leb L 2) (leb L 8) (leb L 22)
-  where
-    go : (a b c : Bool) → (6 ≤ cond a 6 (cond b 8 (cond c 10 12))) × (cond a 6 (cond b 8 (cond c 10 12)) ≤ 12)
-    go true b c = (omega arith, omega arith)
-    go false true c = (omega arith, omega arith)
-    go false false true = (omega arith, omega arith)
-    go false false false = (omega arith, omega arith)
-
-pub bits-most : (f : Bool) (L : ℕ) → L ≤ 32 → bits f L ≤ 19968
-unfolding bits
-bits-most false L h = le-trans (mul-le-mul {n₁ = 88 + 16 * L} {m₁ = L} {n₂ = 600} {m₂ = 32} (omega arith) h) (omega arith)
-bits-most true L h = le-trans (mul-le-mul {n₁ = 112 + 16 * L} {m₁ = L} {n₂ = 624} {m₂ = 32} (omega arith) h) (omega arith)
 
 -- words of more than 19,968 bits are more than any shape has
 too-many : (f : Bool) (L D : ℕ) → L ≤ 32 → 19968 < D * wordSize L → words f L < D
@@ -79,9 +64,9 @@ needed-fits message x percent f L h = go (leb (length message) 4992) refl
     go true e = refl
     go false e =
         let long = leb-false (length message) 4992 e in
-        not-too-many percent f L 4993 (too-many f L 4993 h (omega (arith, size-bounds L)))
+        not-too-many percent f L 4993 (too-many f L 4993 h (omega (arith, word-size-range L)))
         ∙ sym (not-too-many percent f L (length (stuff (wordSize L) (bitsOf message))) (too-many f L _ h
-        (omega (arith, words-of-message (wordSize L) (omega (arith, size-bounds L)) message x))))
+        (omega (arith, words-of-message (wordSize L) (omega (arith, word-size-range L)) message x))))
 
 pub fit-words : (percent : ℕ) (f : Bool) (L D : ℕ) → fits percent f L D ≡ true → D ≤ words f L
 unfolding fits
@@ -95,7 +80,7 @@ words-most f L h =
       arith,
       bits-most f L h,
       div-add-mod' (bits f L) (wordSize L),
-      mul-le-mul {n₁ = bits f L / wordSize L} {m₁ = 6} {n₂ = bits f L / wordSize L} {m₂ = wordSize L} (le-refl _) (size-bounds L .0),
+      mul-le-mul {n₁ = bits f L / wordSize L} {m₁ = 6} {n₂ = bits f L / wordSize L} {m₂ = wordSize L} (le-refl _) (word-size-range L .0),
     )
 
 pub sides-most : (f : Bool) (L : ℕ) → L ≤ 32 → side f L ≤ 151
@@ -116,7 +101,7 @@ needed-is message percent f L h t = go (leb (length message) 4992) t
     go : (b : Bool) → fits percent f L (cond b (length (stuff (wordSize L) (bitsOf message))) 4993) ≡ true
         → cond b (length (stuff (wordSize L) (bitsOf message))) 4993 ≡ length (stuff (wordSize L) (bitsOf message))
     go true e = refl
-    go false e = absurd (omega (arith, fit-words percent f L 4993 e, too-many f L 4993 h (omega (arith, size-bounds L))))
+    go false e = absurd (omega (arith, fit-words percent f L 4993 e, too-many f L 4993 h (omega (arith, word-size-range L))))
 
 -- the search: it stops at the first that passes, or goes on
 module _ (test : ℕ → Bool) where

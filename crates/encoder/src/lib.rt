@@ -1,7 +1,10 @@
 // The encoder (document 01's maker): a message and a check percentage to the symbol in the first listed shape that fits.
 ghost use mathlib.Core.Path.{_≡_};
+ghost use Rattle.encoder.specs.Encode.{encodeOf};
 ghost use Rattle.encoder.specs.Plan.{planOf};
+use symbol::shapes;
 
+pub mod message_symbol;
 pub mod mode;
 pub mod planning;
 
@@ -28,4 +31,23 @@ pub fn plan(message: &[u8], percent: u32) -> Encoded
         return planning::refused(2);
     }
     planning::first_fit(message, percent)
+}
+
+// The symbol of a message at the front of the grid: 0, 1, 2, 3 or 4. A refusal changes nothing.
+pub fn encode(message: &[u8], percent: u32, grid: &mut [u8]) -> Encoded
+    ensures { λ r. ⌜ r ≡ encodeOf (now (message .entry)) percent (now (grid .entry)) .answer ⌝ }
+    ensures { λ r. ⌜ now (grid .exit) ≡ encodeOf (now (message .entry)) percent (now (grid .entry)) .grid ⌝ }
+{
+    let answer = plan(message, percent);
+    if answer.number != 0 {
+        return answer;
+    }
+    let side = answer.side as usize;
+    if grid.len() < side * side {
+        return planning::refused(4);
+    }
+    let number = answer.shape as usize;
+    let layers = shapes::layers_of(number);
+    message_symbol::draw_message(message, 4 < number, layers, answer.data_words as usize, grid);
+    answer
 }

@@ -59,7 +59,7 @@ pub fn orientation_places(full: bool, n: usize, places: &mut [u16])
 }
 
 // The number of mode bits on one side.
-fn mode_run_of(full: bool) -> usize
+pub fn mode_run_of(full: bool) -> usize
     ensures { λ r. ⌜ r ≡ modeRun full ⌝ }
 {
     if full {

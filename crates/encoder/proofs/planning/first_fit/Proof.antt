@@ -8,8 +8,9 @@ use native.Mathlib.Omega.{arith}
 use lib.Dec.{ltb}
 use Rattle.stream.specs.Below.{Bytes, below-of}
 use Rattle.stream_writer.specs.Encoding.{wordsNeeded}
+use Rattle.symbol.specs.Shapes.{word-size-range}
 use Rattle.encoder.specs.Plan.{fits, listed, firstFrom, fitsListed, plannedFor}
-use Rattle.encoder.specs.PlanLaws.{size-bounds, fit-words, first-here, first-next, first-none, Tried, tried-layers, tried-fits, tried-answer}
+use Rattle.encoder.specs.PlanLaws.{fit-words, first-here, first-next, first-none, Tried, tried-layers, tried-fits, tried-answer}
 use Rattle.encoder.proofs.planning.first_fit.Statement.{statement}
 use Rattle.encoder.proofs.planning.first_fit.Tie as tie
 
@@ -39,7 +40,7 @@ word-size-of-requires c κs = tt
 
 count-at-requires : tie.Need-count-at-requires Inv-loop μ-loop
 count-at-requires c κs =
-    let b = size-bounds (c .before .layers-of .result) in
+    let b = word-size-range (c .before .layers-of .result) in
     ((omega (arith, b, c .word-size-of .ensures), omega (arith, b, c .word-size-of .ensures)), c .before .before .before .before .loop .inv .1)
 
 -- the shape that is tried
