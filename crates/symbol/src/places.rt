@@ -7,7 +7,7 @@ ghost use lib.ListN.{length, getD};
 ghost use Rattle.list_laws.specs.Writes.{writes};
 ghost use Rattle.symbol.specs.Shapes.{side, square, bits, core, Shaped};
 ghost use Rattle.symbol.specs.Places.{turned, domino, spread, dataPlace, corePlace, orientationPlace, modeRun, modeColumn, modePlace};
-ghost use Rattle.symbol.specs.Walk.{Lined, Walked, run};
+ghost use Rattle.symbol.specs.Walk.{Lined, run, within, Ready};
 
 // A row and a column.
 pub struct Cell {
@@ -131,9 +131,8 @@ fn spread_lines(full: bool, layers: usize) -> [u16; 142]
 }
 
 // The place of a cell of the square without reference lines, in a symbol of side n.
-fn place_of(lines: &[u16], n: usize, row: usize, col: usize) -> u16
-    requires { ⌜ (row < length (now lines)) × (col < length (now lines)) ⌝ }
-    requires { ⌜ (n ≤ 151) × (getD (now lines) row 0 < n) × (getD (now lines) col 0 < n) ⌝ }
+fn place_of(lines: &[u16; 142], n: usize, row: usize, col: usize) -> u16
+    requires { ⌜ (row < 142) × (col < 142) × (n ≤ 151) × (getD (now lines) row 0 < n) × (getD (now lines) col 0 < n) ⌝ }
     ensures { λ r. ⌜ r ≡ getD (now (lines .entry)) row 0 * n + getD (now (lines .entry)) col 0 ⌝ }
 {
     (lines[row] as usize * n + lines[col] as usize) as u16
@@ -162,10 +161,21 @@ pub struct Layer {
     pub first: usize,
 }
 
+fn inward(layer: Layer) -> Layer
+    requires { ⌜ (0 < layer .left) × (4 ≤ layer .square) × (layer .square + 2 * layer .outer ≤ 142) × (layer .first ≤ 19968) ⌝ }
+    ensures { λ x. ⌜ x ≡ within layer ⌝ }
+{
+    Layer {
+        left: layer.left - 1,
+        square: layer.square - 4,
+        outer: layer.outer + 2,
+        first: layer.first + 8 * (layer.square - 2),
+    }
+}
+
 // The places of the bits on side s of a layer.
-fn side_places(full: bool, layers: usize, lines: &[u16], layer: Layer, s: usize, places: &mut [u16])
-    requires { ⌜ Shaped full layers ⌝ ∗ ⌜ Lined full layers (now lines) ⌝ ∗ ⌜ Walked full layers layer ⌝ }
-    requires { ⌜ (0 < layer .left) × (s < 4) × (bits full layers ≤ length (now places)) ⌝ }
+fn side_places(full: bool, layers: usize, lines: &[u16; 142], layer: Layer, s: usize, places: &mut [u16])
+    requires { ⌜ Ready full layers (now lines) layer (length (now places)) × (s < 4) ⌝ }
     ensures { λ _. ⌜ now (places .exit) ≡ writes (now (places .entry)) (λ (m : ℕ). layer .first + (s * run layer + m)) (λ (m : ℕ). dataPlace full layers (layer .first + (s * run layer + m))) (run layer) ⌝ }
 {
     let n = shapes::side_of(full, layers);
@@ -180,9 +190,8 @@ fn side_places(full: bool, layers: usize, lines: &[u16], layer: Layer, s: usize,
 }
 
 // The places of a layer's bits, side by side.
-fn layer_places(full: bool, layers: usize, lines: &[u16], layer: Layer, places: &mut [u16])
-    requires { ⌜ Shaped full layers ⌝ ∗ ⌜ Lined full layers (now lines) ⌝ ∗ ⌜ Walked full layers layer ⌝ }
-    requires { ⌜ (0 < layer .left) × (bits full layers ≤ length (now places)) ⌝ }
+fn layer_places(full: bool, layers: usize, lines: &[u16; 142], layer: Layer, places: &mut [u16])
+    requires { ⌜ Ready full layers (now lines) layer (length (now places)) ⌝ }
     ensures { λ _. ⌜ now (places .exit) ≡ writes (now (places .entry)) (λ (m : ℕ). layer .first + m) (λ (m : ℕ). dataPlace full layers (layer .first + m)) (4 * run layer) ⌝ }
 {
     let mut s = 0;
@@ -206,11 +215,6 @@ pub fn data_places(full: bool, layers: usize, places: &mut [u16])
     };
     while 0 < layer.left {
         layer_places(full, layers, &lines, layer, places);
-        layer = Layer {
-            left: layer.left - 1,
-            square: layer.square - 4,
-            outer: layer.outer + 2,
-            first: layer.first + 8 * (layer.square - 2),
-        };
+        layer = inward(layer);
     }
 }

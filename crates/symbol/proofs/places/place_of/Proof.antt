@@ -9,13 +9,13 @@ use Rattle.symbol.proofs.places.place_of.Statement.{statement}
 use Rattle.symbol.proofs.places.place_of.Tie as tie
 
 small : (c : tie.Start) → (let a = c .args in getD (a .lines .now) (a .row) 0 * a .n + getD (a .lines .now) (a .col) 0 < 22801)
-small c = let p = c .pre .1 in index-small _ _ _ (p .0) (p .1) (p .2)
+small c = let p = c .pre in index-small _ _ _ (p .2) (p .3) (p .4)
 
 mul-result : tie.Need-mul-result
 mul-result c = search needs
 
-shared-slice-read-result : tie.Need-shared-slice-read-result
-shared-slice-read-result c = search needs
+element-copy-out-result : tie.Need-element-copy-out-result
+element-copy-out-result c = search needs
 
 cast-result : tie.Need-cast-result
 cast-result c = search needs
@@ -26,8 +26,8 @@ mul-result-2 c = omega (arith, small (c .before))
 mul-result-3 : tie.Need-mul-result-3
 mul-result-3 c = search needs
 
-shared-slice-read-result-2 : tie.Need-shared-slice-read-result-2
-shared-slice-read-result-2 c = search needs
+element-copy-out-result-2 : tie.Need-element-copy-out-result-2
+element-copy-out-result-2 c = search needs
 
 cast-result-2 : tie.Need-cast-result-2
 cast-result-2 c = search needs
@@ -46,11 +46,11 @@ place-of-spec =
     tie.close
     (tie.spec
     mul-result
-    shared-slice-read-result
+    element-copy-out-result
     cast-result
     mul-result-2
     mul-result-3
-    shared-slice-read-result-2
+    element-copy-out-result-2
     cast-result-2
     add-result
     cast-result-3

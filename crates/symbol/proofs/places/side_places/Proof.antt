@@ -1,16 +1,14 @@
 -- The first m places are written.
 -- Assumes nothing.
-use borrow.Author.Needs.{needs}
-use mathlib.Core.Path.{_≡_, refl, ap, _∙_}
+use mathlib.Core.Path.{_≡_, ap, _∙_}
 use Prim.Native.Nat.{ℕ, _+_, _*_, _-_, _≤_, _<_}
 use native.Mathlib.Nat.{mul-le-mul-right}
 use native.Mathlib.Omega.{arith}
 use lib.ListN.{length}
 use Rattle.list_laws.specs.Writes.{writes, writes-none, writes-step, length-writes}
-use Rattle.symbol.specs.Shapes.{bits-most}
 use Rattle.symbol.specs.Places.{dataPlace}
-use Rattle.symbol.specs.DataPlaces.{most-layers, side-most}
-use Rattle.symbol.specs.Walk.{run, Shown, walked-index, walked-room, walked-place}
+use Rattle.symbol.specs.DataPlaces.{most-layers}
+use Rattle.symbol.specs.Walk.{run, Shown, walked-fits, walked-index, walked-place}
 use Rattle.symbol.proofs.places.side_places.Statement.{statement}
 use Rattle.symbol.proofs.places.side_places.Tie as tie
 
@@ -21,54 +19,47 @@ Inv-loop full layers lines layer s places₀ n run start m₀ places m =
 abbrev μ-loop : tie.MeasureT-loop
 μ-loop full layers lines layer s places₀ n run start m₀ places m = run - m
 
-module _ (c : tie.Start Inv-loop μ-loop) where
-  room : c .args .layer .first + 4 * run (c .args .layer) ≤ length (c .args .places .now)
-  room = omega (arith, walked-room (c .pre .1 .1 .0) (c .pre .1 .1 .1 .0), c .pre .1 .1 .1)
-
-  start-lt : c .args .layer .first + c .args .s * run (c .args .layer) ≤ length (c .args .places .now)
-  start-lt = omega (arith, room, mul-le-mul-right (run (c .args .layer)) (c .pre .1 .1 .1 .1))
-
 module _ (c : tie.In-loop Inv-loop μ-loop) where
   abbrev sided : tie.After-side-of Inv-loop μ-loop
   sided = c .before .before .before .before
 
   abbrev start : tie.Start Inv-loop μ-loop
-  start = sided .before .before .before
+  start = sided .before .before
 
   abbrev here : ℕ
   here = start .args .layer .first + (start .args .s * run (start .args .layer) + c .before .loop .m)
 
   here-lt : (here < length (start .args .places .now)) × (here < 19968)
-  here-lt =
-      let p = start .pre .1 .1 in
-      let i = walked-index (p .0) (p .1 .0) (start .args .s) (c .before .loop .m) (p .1 .1) (c .loop-test .taken) in
-      (omega (arith, i, p .1), omega (arith, i, bits-most (start .args .full) (start .args .layers) (most-layers _ _ (start .pre .0))))
+  here-lt = walked-index (start .pre .0) (start .args .s) (c .before .loop .m) (start .pre .1) (c .loop-test .taken)
 
 known : (c : tie.After-domino-cell Inv-loop μ-loop)
     → (let s = start (c .before) in
       let o = s .args .layer .outer in
       let x = c .domino-cell .result in
-      Shown (s .args .lines .now) (sided (c .before) .side-of .result) (o + x .row) (o + x .col) (dataPlace (s .args .full) (s .args .layers) (here (c .before))))
+      Shown (s .args .lines .now) (sided (c .before) .side-of .result) (o + x .row) (o + x .col)
+      (dataPlace (s .args .full) (s .args .layers) (here (c .before))))
 known c =
     let s = start (c .before) in
-    let p = s .pre .1 .1 in
-    walked-place (p .0) (p .1 .0) (s .args .s) (c .before .before .loop .m) (p .1 .1) (c .before .loop-test .taken) (s .pre .0) (s .pre .1 .0)
+    walked-place (s .pre .0) (s .args .s) (c .before .before .loop .m) (s .pre .1) (c .before .loop-test .taken)
     (sided (c .before) .side-of .ensures) (c .domino-cell .ensures)
 
 side-of-requires : tie.Need-side-of-requires Inv-loop μ-loop
-side-of-requires c κs = most-layers _ _ (c .before .before .pre .0)
+side-of-requires c κs = most-layers _ _ (c .before .pre .0 .shaped)
+
+start-lt : (c : tie.Start Inv-loop μ-loop) → c .args .layer .first + c .args .s * run (c .args .layer) + run (c .args .layer) ≤ 19968
+start-lt c = omega (arith, walked-fits (c .pre .0), mul-le-mul-right (run (c .args .layer)) (c .pre .1))
 
 sub-run : tie.Need-sub-run Inv-loop μ-loop
 sub-run c = omega arith
 
 mul-run : tie.Need-mul-run Inv-loop μ-loop
-mul-run c = omega (arith, room (c .before .before .before .before))
+mul-run c = omega (arith, start-lt (c .before .before .before))
 
 mul-start : tie.Need-mul-start Inv-loop μ-loop
-mul-start c = omega (arith, start-lt (c .before .before .before .before))
+mul-start c = omega (arith, start-lt (c .before .before .before))
 
 add-start : tie.Need-add-start Inv-loop μ-loop
-add-start c = omega (arith, start-lt (c .before .before .before .before .before))
+add-start c = omega (arith, start-lt (c .before .before .before .before))
 
 loop-holds : tie.Need-loop-holds Inv-loop μ-loop
 loop-holds c = (omega arith, writes-none _ _ _)
@@ -83,40 +74,38 @@ add-place-of-2 : tie.Need-add-place-of-2 Inv-loop μ-loop
 add-place-of-2 c = omega (arith, known (c .before .before .before .before) .col)
 
 place-of-requires : tie.Need-place-of-requires Inv-loop μ-loop
-place-of-requires c κs =
-    let d = c .before .before .before .before in
-    let k = known d in
-    let s = start (d .before) in
-    ((k .row, k .col), (omega (arith, sided (d .before) .side-of .ensures, side-most (s .args .full) (s .args .layers) (s .pre .0)), k .row-lt, k .col-lt))
+place-of-requires c κs = let k = known (c .before .before .before .before) in (k .row, k .col, k .most, k .row-lt, k .col-lt)
 
-abbrev domino : tie.After-place-of Inv-loop μ-loop → tie.After-domino-cell Inv-loop μ-loop
-domino c = c .before .before .before .before .before
+abbrev celled : tie.After-place-of Inv-loop μ-loop → tie.After-domino-cell Inv-loop μ-loop
+celled c = c .before .before .before .before .before
 
 add-places : tie.Need-add-places Inv-loop μ-loop
-add-places c = omega (arith, here-lt (domino c .before))
+add-places c = omega (arith, here-lt (celled c .before))
 
 mul-places : tie.Need-mul-places Inv-loop μ-loop
-mul-places c = omega (arith, here-lt (domino c .before))
+mul-places c = omega (arith, here-lt (celled c .before))
 
 slice-write-places : tie.Need-slice-write-places Inv-loop μ-loop
-slice-write-places c = omega (arith, here-lt (domino c .before), simp length-writes at (ap length (domino c .before .before .loop .inv .1)))
+slice-write-places c = omega (arith, here-lt (celled c .before), simp length-writes at (ap length (celled c .before .before .loop .inv .1)))
 
 add-m : tie.Need-add-m Inv-loop μ-loop
-add-m c = omega arith
+add-m c = omega (arith, here-lt (celled c .before))
 
 loop-less : tie.Need-loop-less Inv-loop μ-loop
 loop-less c = omega arith
 
 loop-again : tie.Need-loop-again Inv-loop μ-loop
 loop-again c =
-    let l = domino c .before .before .loop in
-    (omega arith, writes-step _ _ _ (l .m) (l .inv .1) (omega arith) (c .place-of .ensures ∙ known (domino c) .is))
+    let l = celled c .before .before .loop in
+    (omega arith, writes-step _ _ _ (l .m) (l .inv .1) (omega arith) (c .place-of .ensures ∙ known (celled c) .is))
 
 same-length : tie.Need-same-length Inv-loop μ-loop
 same-length c = simp length-writes at (ap length (c .before .loop .inv .1))
 
 returns : tie.Need-returns Inv-loop μ-loop
-returns c = let e : c .before .loop .m ≡ run (c .before .before .before .before .before .before .before .args .layer) = omega arith in rw e at (c .before .loop .inv .1)
+returns c =
+    let e : c .before .loop .m ≡ run (c .before .before .before .before .before .before .args .layer) = omega arith in
+    rw e at (c .before .loop .inv .1)
 
 pub side-places-spec : {M : Type 1} → statement M
 side-places-spec =
