@@ -46,6 +46,10 @@ walked-first f L S e =
       count = ap (λ S. 0 + total L S) e ∙ (let z : 0 + total L (square f L) ≡ bits f L = omega (arith, bits-total f L) in z);
     }
 
+pub walked-last : {f : Bool} {L : ℕ} {x : Layer} → Walked f L x → x .left ≡ 0 → x .first ≡ bits f L
+unfolding total
+walked-last {x = x} w e = omega (arith, w .count, ap (λ l. total l (x .square)) e)
+
 next-cell : (l S o i : ℕ) → 0 < l → cell (l - 1) (S - 4) (o + 2) i ≡ cell l S o (8 * (S - 2) + i)
 next-cell zero S o i h = absurd (omega arith)
 next-cell (suc l) S o i h =
