@@ -1,7 +1,7 @@
 -- The walk over the layers of data bits, from the outermost inward: what is known of a layer on the way.
 -- Assumes nothing.
-use mathlib.Core.Path.{_≡_, refl, sym, ap, ap₂, _∙_, subst}
-use mathlib.Core.Bool.{Bool, true, false}
+use mathlib.Core.Path.{_≡_, sym, ap, ap₂, _∙_, subst}
+use mathlib.Core.Bool.{Bool}
 use mathlib.Core.List.{List}
 use Prim.Native.Nat.{ℕ, zero, suc, _+_, _*_, _-_, _/_, _%_, _≤_, _<_}
 use native.Mathlib.Omega.{arith}
@@ -81,7 +81,7 @@ pub record Shown (lines : List ℕ) (n r c place : ℕ) : Type 0 where
   pub most : n ≤ 151
   pub row-lt : getD lines r 0 < n
   pub col-lt : getD lines c 0 < n
-  pub is : getD lines r 0 * n + getD lines c 0 ≡ place
+  pub is : {v : ℕ} → v ≡ getD lines r 0 * n + getD lines c 0 → v ≡ place
 
 shown : (f : Bool) (L : ℕ) {lines : List ℕ} {n : ℕ} (r c : ℕ) → Shaped f L → Lined f L lines → n ≡ side f L → r < square f L → c < square f L
     → Shown lines n r c (index (side f L) (spread f L r, spread f L c))
@@ -92,7 +92,7 @@ shown f L {lines} {n} r c sh t e h k =
       most = omega (arith, side-most f L sh);
       row-lt = omega (arith, spread-lt f L r sh h, t r h);
       col-lt = omega (arith, spread-lt f L c sh k, t c k);
-      is = ap₂ (λ (a b : ℕ). a * n + b) (t r h) (t c k) ∙ ap (λ n. index n (spread f L r, spread f L c)) e;
+      is = λ d. d ∙ ap₂ (λ (a b : ℕ). a * n + b) (t r h) (t c k) ∙ ap (λ n. index n (spread f L r, spread f L c)) e;
     }
 
 module _ {f : Bool} {L : ℕ} {lines : List ℕ} {x : Layer} {room : ℕ} (r : Ready f L lines x room) where

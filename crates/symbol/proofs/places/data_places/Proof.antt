@@ -1,11 +1,10 @@
 -- The places of the layers outside of the next one are written.
 -- Assumes nothing.
 use mathlib.Core.Path.{_≡_, sym, ap, subst}
-use Prim.Native.Nat.{ℕ, _+_, _*_}
+use Prim.Native.Nat.{ℕ, _*_}
 use native.Mathlib.Omega.{arith}
 use lib.ListN.{length}
 use Rattle.list_laws.specs.Writes.{writes, writes-none, writes-more, length-writes}
-use Rattle.symbol.specs.Shapes.{bits}
 use Rattle.symbol.specs.Places.{dataPlace}
 use Rattle.symbol.specs.DataPlaces.{most-layers, square-most}
 use Rattle.symbol.specs.declared.places.Layer.{Layer}

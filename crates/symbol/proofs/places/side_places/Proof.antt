@@ -1,6 +1,6 @@
 -- The first m places are written.
 -- Assumes nothing.
-use mathlib.Core.Path.{_≡_, ap, _∙_}
+use mathlib.Core.Path.{_≡_, ap}
 use Prim.Native.Nat.{ℕ, _+_, _*_, _-_, _≤_, _<_}
 use native.Mathlib.Nat.{mul-le-mul-right}
 use native.Mathlib.Omega.{arith}
@@ -97,7 +97,7 @@ loop-less c = omega arith
 loop-again : tie.Need-loop-again Inv-loop μ-loop
 loop-again c =
     let l = celled c .before .before .loop in
-    (omega arith, writes-step _ _ _ (l .m) (l .inv .1) (omega arith) (c .place-of .ensures ∙ known (celled c) .is))
+    (omega arith, writes-step _ _ _ (l .m) (l .inv .1) (omega arith) (known (celled c) .is (c .place-of .ensures)))
 
 same-length : tie.Need-same-length Inv-loop μ-loop
 same-length c = simp length-writes at (ap length (c .before .loop .inv .1))
