@@ -3,11 +3,11 @@
 use crate::shapes;
 ghost use mathlib.Core.Path.{_≡_};
 ghost use Prim.Native.Nat.{ℕ, _+_, _*_, _-_, _/_, _≤_, _<_};
-ghost use lib.ListN.{length, getD};
+ghost use lib.ListN.{length};
 ghost use Rattle.list_laws.specs.Writes.{writes};
 ghost use Rattle.symbol.specs.Shapes.{side, square, bits, core, Shaped};
-ghost use Rattle.symbol.specs.Places.{turned, domino, spread, dataPlace, corePlace, orientationPlace, modeRun, modeColumn, modePlace};
-ghost use Rattle.symbol.specs.Walk.{Lined, run, within, Ready};
+ghost use Rattle.symbol.specs.Places.{turned, domino, shifted, spread, dataPlace, corePlace, orientationPlace, modeRun, modeColumn, modePlace};
+ghost use Rattle.symbol.specs.Walk.{Lined, InTable, tablePlace, run, within, Ready};
 
 // A row and a column.
 pub struct Cell {
@@ -130,14 +130,6 @@ fn spread_lines(full: bool, layers: usize) -> [u16; 142]
     lines
 }
 
-// The place of a cell of the square without reference lines, in a symbol of side n.
-fn place_of(lines: &[u16; 142], n: usize, row: usize, col: usize) -> u16
-    requires { ⌜ (row < 142) × (col < 142) × (n ≤ 151) × (getD (now lines) row 0 < n) × (getD (now lines) col 0 < n) ⌝ }
-    ensures { λ r. ⌜ r ≡ getD (now (lines .entry)) row 0 * n + getD (now (lines .entry)) col 0 ⌝ }
-{
-    (lines[row] as usize * n + lines[col] as usize) as u16
-}
-
 // Bit b of domino j on side s of the outermost layer of a square: left, bottom, right, top.
 fn domino_cell(s: usize, square: usize, j: usize, b: usize) -> Cell
     requires { ⌜ (j < square) × (b < 2) × (2 ≤ square) × (s < 4) ⌝ }
@@ -173,19 +165,32 @@ fn inward(layer: Layer) -> Layer
     }
 }
 
+// The place of bit b of domino j on side s of a layer, in a symbol of side n.
+fn bit_place(lines: &[u16; 142], n: usize, layer: Layer, s: usize, j: usize, b: usize) -> u16
+    requires { ⌜ (j < layer .square) × (b < 2) × (2 ≤ layer .square) × (s < 4) ⌝ }
+    requires { ⌜ InTable (now lines) n (shifted (layer .outer) (domino s (layer .square) j b)) ⌝ }
+    ensures { λ r. ⌜ r ≡ tablePlace (now (lines .entry)) n (shifted (layer .outer) (domino s (layer .square) j b)) ⌝ }
+{
+    let x = domino_cell(s, layer.square, j, b);
+    let row = layer.outer + x.row;
+    let col = layer.outer + x.col;
+    (lines[row] as usize * n + lines[col] as usize) as u16
+}
+
 // The places of the bits on side s of a layer.
 fn side_places(full: bool, layers: usize, lines: &[u16; 142], layer: Layer, s: usize, places: &mut [u16])
     requires { ⌜ Ready full layers (now lines) layer (length (now places)) × (s < 4) ⌝ }
     ensures { λ _. ⌜ now (places .exit) ≡ writes (now (places .entry)) (λ (m : ℕ). layer .first + (s * run layer + m)) (λ (m : ℕ). dataPlace full layers (layer .first + (s * run layer + m))) (run layer) ⌝ }
 {
     let n = shapes::side_of(full, layers);
-    let run = 2 * (layer.square - 2);
-    let start = layer.first + s * run;
-    let mut m = 0;
-    while m < run {
-        let x = domino_cell(s, layer.square, m / 2, m % 2);
-        places[start + m] = place_of(lines, n, layer.outer + x.row, layer.outer + x.col);
-        m += 1;
+    let dominoes = layer.square - 2;
+    let start = layer.first + s * (2 * dominoes);
+    let mut j = 0;
+    while j < dominoes {
+        let at = start + 2 * j;
+        places[at] = bit_place(lines, n, layer, s, j, 0);
+        places[at + 1] = bit_place(lines, n, layer, s, j, 1);
+        j += 1;
     }
 }
 
