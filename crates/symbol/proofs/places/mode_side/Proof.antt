@@ -36,7 +36,7 @@ mode-column-requires c κs = omega arith
 core-place-requires : tie.Need-core-place-requires Inv-loop μ-loop
 core-place-requires c κs =
     let s = c .before .before .before .before .pre in
-    (s .0, s .1, s .2, omega arith, c .mode-column .ensures .1)
+    (s .0, s .1, s .2, omega arith, omega arith)
 
 -- the place in the table
 below : (c : tie.After-mode-column Inv-loop μ-loop)

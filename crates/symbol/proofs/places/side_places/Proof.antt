@@ -75,7 +75,7 @@ add-at : tie.Need-add-at Inv-loop μ-loop
 add-at c = omega (arith, index-lt c 0 _ (omega arith) refl)
 
 bit-place-requires : tie.Need-bit-place-requires Inv-loop μ-loop
-bit-place-requires c κs = ((omega arith, omega arith, omega arith, omega arith), in-table c 0 _ (omega arith) refl)
+bit-place-requires c κs = ((omega arith, omega arith, omega arith, omega arith), in-table c _ _ (omega arith) refl)
 
 mul-places : tie.Need-mul-places Inv-loop μ-loop
 mul-places c = omega (arith, index-lt (c .before) 0 _ (omega arith) refl)
@@ -85,7 +85,7 @@ slice-write-places c =
     omega (arith, index-lt (c .before) 0 _ (omega arith) refl, simp length-writes at (ap length (c .before .before .loop .inv .1)))
 
 bit-place-requires-2 : tie.Need-bit-place-requires-2 Inv-loop μ-loop
-bit-place-requires-2 c κs = ((omega arith, omega arith, omega arith, omega arith), in-table (c .before) 1 _ (omega arith) refl)
+bit-place-requires-2 c κs = ((omega arith, omega arith, omega arith, omega arith), in-table (c .before) _ _ (omega arith) refl)
 
 add-places : tie.Need-add-places Inv-loop μ-loop
 add-places c = omega (arith, index-lt (c .before .before) 1 _ (omega arith) refl)
