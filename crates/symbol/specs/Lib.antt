@@ -8,3 +8,4 @@ pub mod Positions
 pub mod ShapeTable
 pub mod GridWords
 pub mod Walk
+pub mod Examples
