@@ -1,6 +1,7 @@
--- The walk over the layers of data bits, from the outermost inward: what is known of a layer on the way.
+-- The walk over the layers of data bits, from the outermost inward, with a table of lines: what is known of a layer on the way, and where
+-- its bits stand.
 -- Assumes nothing.
-use mathlib.Core.Path.{_≡_, sym, ap, ap₂, _∙_, subst}
+use mathlib.Core.Path.{_≡_, sym, ap, ap₂, _∙_}
 use mathlib.Core.Bool.{Bool}
 use mathlib.Core.List.{List}
 use Prim.Native.Nat.{ℕ, zero, suc, _+_, _*_, _-_, _/_, _%_, _≤_, _<_}
@@ -37,7 +38,7 @@ lined f L l h e a k =
 abbrev pub run : Layer → ℕ
 run x = 2 * (x .square - 2)
 
--- the next layer
+-- the layer inside of one
 abbrev pub within : Layer → Layer
 within x = record { left = x .left - 1; square = x .square - 4; outer = x .outer + 2; first = x .first + 8 * (x .square - 2) }
 
@@ -93,10 +94,10 @@ module _ {f : Bool} {L : ℕ} {lines : List ℕ} {x : Layer} {room : ℕ} (r : R
   walked-next =
       record {
         same =
-          λ i. next-cell (x .left) (x .square) (x .outer) i (r .some)
-          ∙ w .same (8 * (x .square - 2) + i)
-          ∙ ap (cell L (square f L) 0)
-          (let z : x .first + (8 * (x .square - 2) + i) ≡ x .first + 8 * (x .square - 2) + i = omega arith in z);
+            λ i. next-cell (x .left) (x .square) (x .outer) i (r .some)
+            ∙ w .same (8 * (x .square - 2) + i)
+            ∙ ap (cell L (square f L) 0)
+            (let z : x .first + (8 * (x .square - 2) + i) ≡ x .first + 8 * (x .square - 2) + i = omega arith in z);
         large = omega (arith, w .large, r .some);
         around = omega (arith, w .large, w .around, r .some);
         count = omega (arith, w .count, next-total (x .left) (x .square) (r .some));

@@ -1,6 +1,6 @@
 -- The places of the first j dominoes are written.
 -- Assumes nothing.
-use mathlib.Core.Path.{_≡_, refl, ap, _∙_}
+use mathlib.Core.Path.{_≡_, refl, ap}
 use Prim.Native.Nat.{ℕ, _+_, _*_, _-_, _≤_, _<_}
 use native.Mathlib.Nat.{mul-le-mul-right}
 use native.Mathlib.Omega.{arith}
@@ -108,13 +108,12 @@ loop-again : tie.Need-loop-again Inv-loop μ-loop
 loop-again c =
     let l = c .before .before in
     let j = l .before .loop .j in
-    let e : 2 * j + 1 + 1 ≡ 2 * (j + 1) = omega arith in
-    (
+    let e : 2 * j + 1 + 1 ≡ 2 * (j + 1) = omega arith in (
       omega arith,
       rw (← e) (writes-step _ _ _ (2 * j + 1)
-      (writes-step _ _ _ (2 * j) (l .before .loop .inv .1) (omega arith)
-      (place-is l 0 (2 * j) (omega arith) (omega arith) (c .before .bit-place .ensures)))
-      (omega arith) (place-is l 1 (2 * j + 1) (omega arith) refl (c .bit-place2 .ensures))),
+          (writes-step _ _ _ (2 * j) (l .before .loop .inv .1) (omega arith)
+          (place-is l 0 (2 * j) (omega arith) (omega arith) (c .before .bit-place .ensures)))
+          (omega arith) (place-is l 1 (2 * j + 1) (omega arith) refl (c .bit-place2 .ensures))),
     )
 
 same-length : tie.Need-same-length Inv-loop μ-loop
