@@ -9,3 +9,4 @@ pub mod ShapeTable
 pub mod GridWords
 pub mod Walk
 pub mod Tables
+pub mod Examples

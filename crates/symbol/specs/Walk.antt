@@ -1,7 +1,8 @@
--- The walk over the layers of data bits, from the outermost inward: what is known of a layer on the way.
+-- The walk over the layers of data bits, from the outermost inward, with a table of lines: what is known of a layer on the way, and where
+-- its bits stand.
 -- Assumes nothing.
-use mathlib.Core.Path.{_≡_, refl, sym, ap, ap₂, _∙_, subst}
-use mathlib.Core.Bool.{Bool, true, false}
+use mathlib.Core.Path.{_≡_, sym, ap, ap₂, _∙_}
+use mathlib.Core.Bool.{Bool}
 use mathlib.Core.List.{List}
 use Prim.Native.Nat.{ℕ, zero, suc, _+_, _*_, _-_, _/_, _%_, _≤_, _<_}
 use native.Mathlib.Omega.{arith}
@@ -17,6 +18,17 @@ use Rattle.symbol.specs.DataPlaces.{index-row, index-col, rows-lt, most-
 abbrev pub Lined : Bool → ℕ → List ℕ → Type 0
 Lined f L lines = (a : ℕ) → a < square f L → getD lines a 0 ≡ spread f L a
 
+-- a cell of the square whose row and column the table has, in a symbol of side n
+pub record InTable (lines : List ℕ) (n : ℕ) (x : Cell) : Type 0 where
+  pub row : x .0 < 142
+  pub col : x .1 < 142
+  pub most : n ≤ 151
+  pub row-lt : getD lines (x .0) 0 < n
+  pub col-lt : getD lines (x .1) 0 < n
+
+abbrev pub tablePlace : List ℕ → ℕ → Cell → ℕ
+tablePlace lines n x = index n (getD lines (x .0) 0, getD lines (x .1) 0)
+
 pub lined : (f : Bool) (L : ℕ) (l : List ℕ) {lines : List ℕ} → square f L ≤ length l → lines ≡ writes l (λ a. a) (spread f L) (square f L)
     → Lined f L lines
 lined f L l h e a k =
@@ -26,7 +38,7 @@ lined f L l h e a k =
 abbrev pub run : Layer → ℕ
 run x = 2 * (x .square - 2)
 
--- the next layer
+-- the layer inside of one
 abbrev pub within : Layer → Layer
 within x = record { left = x .left - 1; square = x .square - 4; outer = x .outer + 2; first = x .first + 8 * (x .square - 2) }
 
@@ -74,27 +86,6 @@ pub record Ready (f : Bool) (L : ℕ) (lines : List ℕ) (x : Layer) (room : ℕ
   pub some : 0 < x .left
   pub fits : bits f L ≤ room
 
--- the place that a table gives for a row and a column of the square, in a symbol of side n
-pub record Shown (lines : List ℕ) (n r c place : ℕ) : Type 0 where
-  pub row : r < 142
-  pub col : c < 142
-  pub most : n ≤ 151
-  pub row-lt : getD lines r 0 < n
-  pub col-lt : getD lines c 0 < n
-  pub is : getD lines r 0 * n + getD lines c 0 ≡ place
-
-shown : (f : Bool) (L : ℕ) {lines : List ℕ} {n : ℕ} (r c : ℕ) → Shaped f L → Lined f L lines → n ≡ side f L → r < square f L → c < square f L
-    → Shown lines n r c (index (side f L) (spread f L r, spread f L c))
-shown f L {lines} {n} r c sh t e h k =
-    record {
-      row = omega (arith, square-most f L sh);
-      col = omega (arith, square-most f L sh);
-      most = omega (arith, side-most f L sh);
-      row-lt = omega (arith, spread-lt f L r sh h, t r h);
-      col-lt = omega (arith, spread-lt f L c sh k, t c k);
-      is = ap₂ (λ (a b : ℕ). a * n + b) (t r h) (t c k) ∙ ap (λ n. index n (spread f L r, spread f L c)) e;
-    }
-
 module _ {f : Bool} {L : ℕ} {lines : List ℕ} {x : Layer} {room : ℕ} (r : Ready f L lines x room) where
   abbrev w : Walked f L x
   w = r .walked
@@ -103,10 +94,10 @@ module _ {f : Bool} {L : ℕ} {lines : List ℕ} {x : Layer} {room : ℕ} (r : R
   walked-next =
       record {
         same =
-          λ i. next-cell (x .left) (x .square) (x .outer) i (r .some)
-          ∙ w .same (8 * (x .square - 2) + i)
-          ∙ ap (cell L (square f L) 0)
-          (let z : x .first + (8 * (x .square - 2) + i) ≡ x .first + 8 * (x .square - 2) + i = omega arith in z);
+            λ i. next-cell (x .left) (x .square) (x .outer) i (r .some)
+            ∙ w .same (8 * (x .square - 2) + i)
+            ∙ ap (cell L (square f L) 0)
+            (let z : x .first + (8 * (x .square - 2) + i) ≡ x .first + 8 * (x .square - 2) + i = omega arith in z);
         large = omega (arith, w .large, r .some);
         around = omega (arith, w .large, w .around, r .some);
         count = omega (arith, w .count, next-total (x .left) (x .square) (r .some));
@@ -119,32 +110,50 @@ module _ {f : Bool} {L : ℕ} {lines : List ℕ} {x : Layer} {room : ℕ} (r : R
   pub walked-fits : (x .first + 4 * run x ≤ room) × (x .first + 4 * run x ≤ 19968)
   walked-fits = (omega (arith, walked-bits, r .fits), omega (arith, walked-bits, bits-most f L (most-layers f L (r .shaped))))
 
-  -- bit m on side s
-  module _ (s m : ℕ) (h : s < 4) (k : m < run x) where
+  -- bit b of domino j on side s, its bit m
+  module _ (s j b m : ℕ) (h : s < 4) (k : j < x .square - 2) (l : b < 2) (d : m ≡ 2 * j + b) where
     abbrev i : ℕ
     i = s * run x + m
 
     abbrev here : Cell
-    here = domino s (x .square) (m / 2) (m % 2)
+    here = shifted (x .outer) (domino s (x .square) j b)
 
-    walked-cell : cell L (square f L) 0 (x .first + i) ≡ shifted (x .outer) here
+    below : i < 4 * run x
+    below = rows-lt 4 (run x) s m h (omega arith)
+
+    walked-cell : cell L (square f L) 0 (x .first + i) ≡ here
     unfolding layerCell
     walked-cell =
+        let m-lt : m < run x = omega arith in
+        let half : i % run x / 2 ≡ j = omega (arith, index-col (run x) s m m-lt) in
+        let bit : i % run x % 2 ≡ b = omega (arith, index-col (run x) s m m-lt) in
         sym (w .same i)
-        ∙ first-cell (x .left) (x .square) (x .outer) i (r .some) (omega (arith, rows-lt 4 (run x) s m h k))
-        ∙ ap₂ (λ (s m : ℕ). shifted (x .outer) (domino s (x .square) (m / 2) (m % 2))) (index-row (run x) s m k) (index-col (run x) s m k)
+        ∙ first-cell (x .left) (x .square) (x .outer) i (r .some) (omega (arith, below))
+        ∙ ap₂ (λ (s j : ℕ). shifted (x .outer) (domino s (x .square) j (i % run x % 2))) (index-row (run x) s m m-lt) half
+        ∙ ap (λ b. shifted (x .outer) (domino s (x .square) j b)) bit
 
     pub walked-index : (x .first + i < room) × (x .first + i < 19968)
-    walked-index = let j = rows-lt 4 (run x) s m h k in (omega (arith, walked-fits, j), omega (arith, walked-fits, j))
+    walked-index = (omega (arith, walked-fits, below), omega (arith, walked-fits, below))
 
-    -- where the bit's cell (p, q) stands by the table
-    pub walked-place : {n p q : ℕ} → n ≡ side f L → (p ≡ here .0) × (q ≡ here .1)
-        → Shown lines n (x .outer + p) (x .outer + q) (dataPlace f L (x .first + i))
+    inside : (here .0 < square f L) × (here .1 < square f L)
+    inside =
+        let c = data-inside f L (r .shaped) (x .first + i) (omega (arith, walked-bits, below)) in
+        (omega (arith, c .row-lt, ap (λ (y : Cell). y .0) walked-cell), omega (arith, c .col-lt, ap (λ (y : Cell). y .1) walked-cell))
+
+    pub walked-in-table : {n : ℕ} → n ≡ side f L → InTable lines n here
+    walked-in-table e =
+        record {
+          row = omega (arith, inside, square-most f L (r .shaped));
+          col = omega (arith, inside, square-most f L (r .shaped));
+          most = omega (arith, side-most f L (r .shaped));
+          row-lt = omega (arith, spread-lt f L (here .0) (r .shaped) (inside .0), r .lined (here .0) (inside .0));
+          col-lt = omega (arith, spread-lt f L (here .1) (r .shaped) (inside .1), r .lined (here .1) (inside .1));
+        }
+
+    pub walked-place : {n v : ℕ} → n ≡ side f L → v ≡ tablePlace lines n here → v ≡ dataPlace f L (x .first + i)
     unfolding dataPlace
-    walked-place {n} {p} {q} e (a, b) =
-        let y = cell L (square f L) 0 (x .first + i) in
-        let inside = data-inside f L (r .shaped) (x .first + i) (omega (arith, walked-bits, rows-lt 4 (run x) s m h k)) in
-        let row : x .outer + p ≡ y .0 = omega (arith, ap (λ (y : Cell). y .0) walked-cell) in
-        let col : x .outer + q ≡ y .1 = omega (arith, ap (λ (y : Cell). y .1) walked-cell) in
-        subst (Shown lines n (x .outer + p) (x .outer + q)) (ap₂ (λ (a b : ℕ). index (side f L) (spread f L a, spread f L b)) row col)
-        (shown f L (x .outer + p) (x .outer + q) (r .shaped) (r .lined) e (omega (arith, inside .row-lt)) (omega (arith, inside .col-lt)))
+    walked-place {n} e d =
+        d
+        ∙ ap₂ (λ (a b : ℕ). a * n + b) (r .lined (here .0) (inside .0)) (r .lined (here .1) (inside .1))
+        ∙ ap (λ n. index n (spread f L (here .0), spread f L (here .1))) e
+        ∙ ap (λ (y : Cell). index (side f L) (spread f L (y .0), spread f L (y .1))) (sym walked-cell)

@@ -2,12 +2,12 @@
 // here; drawing and reading go through the table.
 use crate::shapes;
 ghost use mathlib.Core.Path.{_≡_};
-ghost use Prim.Native.Nat.{ℕ, _+_, _*_, _-_, _/_, _≤_, _<_};
-ghost use lib.ListN.{length, getD};
+ghost use Prim.Native.Nat.{ℕ, _+_, _*_, _≤_, _<_};
+ghost use lib.ListN.{length};
 ghost use Rattle.list_laws.specs.Writes.{writes};
-ghost use Rattle.symbol.specs.Shapes.{side, square, bits, core, Shaped};
-ghost use Rattle.symbol.specs.Places.{turned, domino, spread, dataPlace, corePlace, orientationPlace, modeRun, modeColumn, modePlace};
-ghost use Rattle.symbol.specs.Walk.{Lined, run, within, Ready};
+ghost use Rattle.symbol.specs.Shapes.{bits, core, Shaped};
+ghost use Rattle.symbol.specs.Places.{turned, domino, shifted, spread, dataPlace, corePlace, orientationPlace, modeRun, modeColumn, modePlace};
+ghost use Rattle.symbol.specs.Walk.{Lined, InTable, tablePlace, run, within, Ready};
 
 // A row and a column.
 pub struct Cell {
@@ -24,17 +24,29 @@ pub fn turned_cell(p: usize, n: usize, row: usize, col: usize) -> Cell
     let right = n - 1 - col;
     match p {
         0 => Cell { row, col },
-        1 => Cell { row: col, col: below },
-        2 => Cell { row: below, col: right },
-        3 => Cell { row: right, col: row },
+        1 => Cell {
+            row: col,
+            col: below,
+        },
+        2 => Cell {
+            row: below,
+            col: right,
+        },
+        3 => Cell {
+            row: right,
+            col: row,
+        },
         4 => Cell { row, col: right },
-        5 => Cell { row: right, col: below },
+        5 => Cell {
+            row: right,
+            col: below,
+        },
         6 => Cell { row: below, col },
         _ => Cell { row: col, col: row },
     }
 }
 
-// The place of a cell of the core square, after some quarter turns of the square, in a symbol of side n.
+// The place of a cell of the core square, after some quarter turns of that square, in a symbol of side n.
 fn core_place(full: bool, n: usize, turns: usize, row: usize, col: usize) -> u16
     requires { ⌜ (2 * core full < n) × (n ≤ 151) × (turns < 4) × (row ≤ 2 * core full) × (col ≤ 2 * core full) ⌝ }
     ensures { λ r. ⌜ r ≡ corePlace full n (turned turns (2 * core full + 1) row col) ⌝ }
@@ -115,7 +127,7 @@ fn spread_of(full: bool, layers: usize, a: usize) -> usize
     a
 }
 
-// The same for each row or column: a table, so that no bit costs a division.
+// The same for every row or column, of which the largest square has 142: a table, so that no bit costs a division.
 fn spread_lines(full: bool, layers: usize) -> [u16; 142]
     requires { ⌜ Shaped full layers ⌝ }
     ensures { λ r. ⌜ Lined full layers r ⌝ }
@@ -130,14 +142,6 @@ fn spread_lines(full: bool, layers: usize) -> [u16; 142]
     lines
 }
 
-// The place of a cell of the square without reference lines, in a symbol of side n.
-fn place_of(lines: &[u16; 142], n: usize, row: usize, col: usize) -> u16
-    requires { ⌜ (row < 142) × (col < 142) × (n ≤ 151) × (getD (now lines) row 0 < n) × (getD (now lines) col 0 < n) ⌝ }
-    ensures { λ r. ⌜ r ≡ getD (now (lines .entry)) row 0 * n + getD (now (lines .entry)) col 0 ⌝ }
-{
-    (lines[row] as usize * n + lines[col] as usize) as u16
-}
-
 // Bit b of domino j on side s of the outermost layer of a square: left, bottom, right, top.
 fn domino_cell(s: usize, square: usize, j: usize, b: usize) -> Cell
     requires { ⌜ (j < square) × (b < 2) × (2 ≤ square) × (s < 4) ⌝ }
@@ -146,9 +150,18 @@ fn domino_cell(s: usize, square: usize, j: usize, b: usize) -> Cell
     let last = square - 1;
     match s {
         0 => Cell { row: j, col: b },
-        1 => Cell { row: last - b, col: j },
-        2 => Cell { row: last - j, col: last - b },
-        _ => Cell { row: b, col: last - j },
+        1 => Cell {
+            row: last - b,
+            col: j,
+        },
+        2 => Cell {
+            row: last - j,
+            col: last - b,
+        },
+        _ => Cell {
+            row: b,
+            col: last - j,
+        },
     }
 }
 
@@ -161,6 +174,7 @@ pub struct Layer {
     pub first: usize,
 }
 
+// The layer inside of this one.
 fn inward(layer: Layer) -> Layer
     requires { ⌜ (0 < layer .left) × (4 ≤ layer .square) × (layer .square + 2 * layer .outer ≤ 142) × (layer .first ≤ 19968) ⌝ }
     ensures { λ x. ⌜ x ≡ within layer ⌝ }
@@ -173,19 +187,39 @@ fn inward(layer: Layer) -> Layer
     }
 }
 
-// The places of the bits on side s of a layer.
-fn side_places(full: bool, layers: usize, lines: &[u16; 142], layer: Layer, s: usize, places: &mut [u16])
+// The place of bit b of domino j on side s of a layer, in a symbol of side n.
+fn bit_place(lines: &[u16; 142], n: usize, layer: Layer, s: usize, j: usize, b: usize) -> u16
+    requires { ⌜ (j < layer .square) × (b < 2) × (2 ≤ layer .square) × (s < 4) ⌝ }
+    requires { ⌜ InTable (now lines) n (shifted (layer .outer) (domino s (layer .square) j b)) ⌝ }
+    ensures { λ r. ⌜ r ≡ tablePlace (now (lines .entry)) n (shifted (layer .outer) (domino s (layer .square) j b)) ⌝ }
+{
+    let x = domino_cell(s, layer.square, j, b);
+    let row = layer.outer + x.row;
+    let col = layer.outer + x.col;
+    (lines[row] as usize * n + lines[col] as usize) as u16
+}
+
+// The places of the bits on side s of a layer, by dominoes, whose two bits share a line.
+fn side_places(
+    full: bool,
+    layers: usize,
+    lines: &[u16; 142],
+    layer: Layer,
+    s: usize,
+    places: &mut [u16],
+)
     requires { ⌜ Ready full layers (now lines) layer (length (now places)) × (s < 4) ⌝ }
     ensures { λ _. ⌜ now (places .exit) ≡ writes (now (places .entry)) (λ (m : ℕ). layer .first + (s * run layer + m)) (λ (m : ℕ). dataPlace full layers (layer .first + (s * run layer + m))) (run layer) ⌝ }
 {
     let n = shapes::side_of(full, layers);
-    let run = 2 * (layer.square - 2);
-    let start = layer.first + s * run;
-    let mut m = 0;
-    while m < run {
-        let x = domino_cell(s, layer.square, m / 2, m % 2);
-        places[start + m] = place_of(lines, n, layer.outer + x.row, layer.outer + x.col);
-        m += 1;
+    let dominoes = layer.square - 2;
+    let start = layer.first + s * (2 * dominoes);
+    let mut j = 0;
+    while j < dominoes {
+        let at = start + 2 * j;
+        places[at] = bit_place(lines, n, layer, s, j, 0);
+        places[at + 1] = bit_place(lines, n, layer, s, j, 1);
+        j += 1;
     }
 }
 

@@ -30,14 +30,14 @@ by-core {f} {n} {p} {r} {c} {d} {x} {y} room most low left e (h, k) =
       col = col;
       small = index-small n _ _ most row col;
       place =
-        ap₂ (λ (a b : ℕ). (n / 2 - d + a) * n + (n / 2 - d + b)) h k
-        ∙ ap (λ d. let t = turned p (2 * d + 1) r c in (n / 2 - d + t .0) * n + (n / 2 - d + t .1)) e;
+          ap₂ (λ (a b : ℕ). (n / 2 - d + a) * n + (n / 2 - d + b)) h k
+          ∙ ap (λ d. let t = turned p (2 * d + 1) r c in (n / 2 - d + t .0) * n + (n / 2 - d + t .1)) e;
     }
 
 known : (c : tie.After-turned-cell)
     → (let a = c .before .before .args in
-      let x = c .turned-cell .result in
-      Known (a .full) (a .n) (a .turns) (a .row) (a .col) (c .before .core-of .result) (x .row) (x .col))
+    let x = c .turned-cell .result in
+    Known (a .full) (a .n) (a .turns) (a .row) (a .col) (c .before .core-of .result) (x .row) (x .col))
 known c =
     let s = c .before .before .pre in
     by-core (s .0) (s .1) (s .3) (s .4) (c .before .core-of .ensures) (c .turned-cell .ensures)

@@ -1,11 +1,10 @@
 -- The places of the layers outside of the next one are written.
 -- Assumes nothing.
 use mathlib.Core.Path.{_≡_, sym, ap, subst}
-use Prim.Native.Nat.{ℕ, _+_, _*_}
+use Prim.Native.Nat.{ℕ, _*_}
 use native.Mathlib.Omega.{arith}
 use lib.ListN.{length}
 use Rattle.list_laws.specs.Writes.{writes, writes-none, writes-more, length-writes}
-use Rattle.symbol.specs.Shapes.{bits}
 use Rattle.symbol.specs.Places.{dataPlace}
 use Rattle.symbol.specs.DataPlaces.{most-layers, square-most}
 use Rattle.symbol.specs.declared.places.Layer.{Layer}
@@ -22,8 +21,8 @@ abbrev μ-loop : tie.MeasureT-loop
 
 ready : (c : tie.Then1 Inv-loop μ-loop)
     → (let l = c .before .before in
-      let s = l .before .before .before .before in
-      Ready (s .args .full) (s .args .layers) (l .before .before .spread-lines .result) (l .loop .layer) (length (l .loop .places)))
+    let s = l .before .before .before .before in
+    Ready (s .args .full) (s .args .layers) (l .before .before .spread-lines .result) (l .loop .layer) (length (l .loop .places)))
 ready c =
     let l = c .before .before in
     let s = l .before .before .before .before in
@@ -51,8 +50,7 @@ inward-requires : tie.Need-inward-requires Inv-loop μ-loop
 inward-requires c κs =
     let t = c .before .before .before .before .before in
     let w = t .before .before .loop .inv .0 in
-    let s = t .before .before .before .before .before .before in
-    (
+    let s = t .before .before .before .before .before .before in (
       t .if1 .taken,
       omega (arith, w .large),
       omega (arith, w .around, square-most _ _ (s .pre .0)),
@@ -65,11 +63,10 @@ loop-less c = omega (arith, ap (λ (x : Layer). x .left) (c .inward .ensures))
 loop-again : tie.Need-loop-again Inv-loop μ-loop
 loop-again c =
     let t = c .before .before .before .before .before .before in
-    let l = t .before .before .loop in
-    (
+    let l = t .before .before .loop in (
       subst (Walked _ _) (sym (c .inward .ensures)) (walked-next (ready t)),
       writes-more _ _ _ (l .layer .first) (4 * run (l .layer)) _ (l .inv .1) (c .before .before .before .layer-places .ensures)
-      (omega (arith, ap (λ (x : Layer). x .first) (c .inward .ensures))),
+          (omega (arith, ap (λ (x : Layer). x .first) (c .inward .ensures))),
     )
 
 same-length : tie.Need-same-length Inv-loop μ-loop

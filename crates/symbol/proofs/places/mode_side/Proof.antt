@@ -36,7 +36,7 @@ mode-column-requires c κs = omega arith
 core-place-requires : tie.Need-core-place-requires Inv-loop μ-loop
 core-place-requires c κs =
     let s = c .before .before .before .before .pre in
-    (s .0, s .1, s .2, omega arith, c .mode-column .ensures .1)
+    (s .0, s .1, s .2, omega arith, omega arith)
 
 -- the place in the table
 below : (c : tie.After-mode-column Inv-loop μ-loop)
@@ -67,11 +67,10 @@ loop-again : tie.Need-loop-again Inv-loop μ-loop
 loop-again c =
     let a = c .before .before .before .before .before .args in
     let s = c .before .before .before .before .before .pre in
-    let l = c .before .before .before .loop in
-    (
+    let l = c .before .before .before .loop in (
       omega arith,
       writes-step _ _ _ (l .j) (l .inv .1) refl
-      (on-side (a .full) (a .n) (a .s) (l .j) (s .3) (c .before .before .loop-test .taken) (c .before .mode-column .ensures .0) (c .core-place .ensures)),
+          (on-side (a .full) (a .n) (a .s) (l .j) (s .3) (c .before .before .loop-test .taken) (c .before .mode-column .ensures .0) (c .core-place .ensures)),
     )
 
 same-length : tie.Need-same-length Inv-loop μ-loop

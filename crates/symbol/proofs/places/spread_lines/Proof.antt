@@ -1,12 +1,11 @@
 -- The first a lines are written.
 -- Assumes nothing.
-use borrow.Author.Needs.{needs}
-use mathlib.Core.Path.{_≡_, refl, ap}
+use mathlib.Core.Path.{_≡_, refl}
 use Prim.Native.Nat.{ℕ, _-_, _≤_}
 use native.Mathlib.Omega.{arith}
-use lib.ListN.{length, replicate}
-use Rattle.list_laws.specs.Writes.{writes, writes-none, writes-step, length-writes}
-use Rattle.symbol.specs.Shapes.{side, square}
+use lib.ListN.{replicate}
+use Rattle.list_laws.specs.Writes.{writes, writes-none, writes-step}
+use Rattle.symbol.specs.Shapes.{square}
 use Rattle.symbol.specs.Places.{spread}
 use Rattle.symbol.specs.DataPlaces.{most-layers, side-most, square-most, spread-lt}
 use Rattle.symbol.specs.Walk.{lined}
