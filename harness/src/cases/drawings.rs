@@ -12,6 +12,16 @@ const COUNT: usize = 300;
 /// Messages of each shape; other kinds each time.
 const EACH: usize = 6;
 
+/// Bytes that other programs are known to take amiss: 29 at the start, and `}`.
+const AMISS: [&[u8]; 6] = [
+    b"\x1D",
+    b"\x1DPOT 0412",
+    b"POT\x1D0412",
+    b"{temp: 21.5}",
+    b"}}}",
+    b"pot } 12 ~",
+];
+
 const PERCENTS: [u32; 7] = [23, 5, 33, 50, 10, 66, 80];
 
 /// The list never changes, so that a case can be named by its place.
@@ -23,6 +33,7 @@ pub fn all() -> Vec<Tag> {
     let bytes = CLASSES.iter().flat_map(|class| class.iter());
     list.extend(bytes.map(|&byte| tag("a single byte", vec![byte], 23)));
     list.extend(PRINTED.map(|message| tag("a printed message", message.to_vec(), 23)));
+    list.extend(AMISS.map(|message| tag("bytes often taken amiss", message.to_vec(), 23)));
     for i in 0.. {
         if list.len() == COUNT {
             break;

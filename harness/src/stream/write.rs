@@ -135,7 +135,7 @@ pub fn stuffed(bits: &[bool], size: u32) -> Vec<u16> {
 /// Printed messages whose words come out unlike the printed ones.
 pub fn faults() -> usize {
     let unlike = PRINTED.iter().filter(|(message, size, words)| {
-        let made = stuffed(&stream(message), *size);
+        let made = super::words_of(message, *size);
         made != *words
     });
     unlike.count()
