@@ -9,7 +9,7 @@ use crate::symbol::shape::{self, Shape};
 
 const COUNT: usize = 300;
 
-/// Messages of each shape; other kinds each time.
+/// Messages of each shape.
 const EACH: usize = 6;
 
 /// Bytes that other programs are known to take amiss: 29 at the start, and `}`.
@@ -46,15 +46,16 @@ pub fn all() -> Vec<Tag> {
     list
 }
 
-/// Every shape, from messages of one code set and of all kinds; a full symbol and one that
-/// isn't take turns.
+/// Every shape, first filled with upper case, which leaves no maker a choice of codes, then
+/// from the other sources in turn; a full symbol and one that isn't alternate.
 fn shapes(random: &mut Random) -> Vec<Tag> {
     let sources = sources(random);
     let turns = shape::listed().flat_map(|shape| (0..EACH).map(move |i| (shape, i)));
     let numbered = turns.enumerate();
     let mut list = Vec::new();
     for (turn, (shape, i)) in numbered {
-        let (label, source) = &sources[turn % sources.len()];
+        let others = sources.len() - 1;
+        let (label, source) = &sources[if i == 0 { 0 } else { 1 + turn % others }];
         let percent = PERCENTS[turn % PERCENTS.len()];
         let (least, most) = lengths(source, shape, percent);
         let len = if i % 2 == 0 {

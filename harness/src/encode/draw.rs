@@ -3,7 +3,7 @@
 use super::calls::{encoded, library, Due, Encode};
 use crate::cases::drawings;
 use crate::cases::tags::Tag;
-use crate::symbol::shape;
+use crate::symbol::shape::{self, Shape};
 use std::fs;
 use std::io;
 use std::path::Path;
@@ -45,34 +45,41 @@ fn drawn(folder: &Path, maker: Option<Encode>) -> io::Result<usize> {
     let mut lines = String::new();
     for (i, tag) in list.iter().enumerate() {
         let name = format!("{:03}", i + 1);
-        let modules =
-            modules(tag, maker).map_err(|fault| io::Error::other(format!("{name}: {fault}")))?;
-        let side = modules.len().isqrt();
-        fs::write(folder.join(format!("{name}.pgm")), image(&modules, side))?;
+        let (shape, modules) =
+            symbol(tag, maker).map_err(|fault| io::Error::other(format!("{name}: {fault}")))?;
+        let image = image(&modules, shape.side());
+        fs::write(folder.join(format!("{name}.pgm")), image)?;
         fs::write(folder.join(format!("{name}.bytes")), &tag.message)?;
-        let (percent, len) = (tag.percent, tag.message.len());
-        lines += &format!(
-            "{name} side {side}, {percent} percent, {len} bytes: {}\n",
-            tag.label
-        );
+        lines += &format!("{name} {}\n", told(tag, shape));
     }
     fs::write(folder.join("list.txt"), lines)?;
     Ok(list.len())
 }
 
-/// The side² modules, by the given maker or else by the harness's own.
-fn modules(tag: &Tag, maker: Option<Encode>) -> Result<Vec<u8>, String> {
-    let Some(encode) = maker else {
-        return Ok(Due::of(&tag.message, tag.percent).modules);
-    };
+fn told(tag: &Tag, shape: Shape) -> String {
+    let (number, side) = (shape.number(), shape.side());
+    let (percent, len) = (tag.percent, tag.message.len());
+    let label = tag.label;
+    format!("shape {number}, side {side}, {percent} percent, {len} bytes: {label}")
+}
+
+/// The shape and its modules, by the given maker or else by the harness's own.
+fn symbol(tag: &Tag, maker: Option<Encode>) -> Result<(Shape, Vec<u8>), String> {
     let mut grid = vec![0; MOST];
-    let answer = encoded(encode, &tag.message, tag.percent, &mut grid);
-    let side = answer.side as usize;
-    if answer.number != 0 || !shape::listed().any(|shape| shape.side() == side) {
+    let answer = match maker {
+        Some(encode) => encoded(encode, &tag.message, tag.percent, &mut grid),
+        None => {
+            let due = Due::of(&tag.message, tag.percent);
+            grid[..due.modules.len()].copy_from_slice(&due.modules);
+            due.answer(MOST)
+        }
+    };
+    let named = |shape: &Shape| shape.number() == answer.shape as usize;
+    let Some(shape) = shape::listed().find(named) else {
         return Err(format!("the maker answered {answer:?}"));
-    }
-    grid.truncate(side * side);
-    Ok(grid)
+    };
+    grid.truncate(shape.side().pow(2));
+    Ok((shape, grid))
 }
 
 /// A grey map (PGM).

@@ -8,7 +8,7 @@ use std::sync::mpsc;
 use std::thread;
 use std::time::Duration;
 
-/// A program that says nothing for so long is ended, and counts as stuck.
+/// A program that takes longer is ended, and the comparison with it.
 const PATIENCE: Duration = Duration::from_secs(60);
 
 /// Sizes of the parts in which a pipe delivers, taken in turn.
@@ -31,7 +31,7 @@ pub enum Input<'a> {
 pub struct Outcome {
     pub stdout: Vec<u8>,
     pub stderr: Vec<u8>,
-    /// None for a program that was ended by a signal, this one's included.
+    /// None for a program that was ended by a signal.
     pub code: Option<i32>,
 }
 
@@ -63,6 +63,8 @@ fn outcome(mut child: Child, input: Input) -> io::Result<Outcome> {
         let stderr = scope.spawn(move || whole(stderr));
         if ended.recv_timeout(PATIENCE).is_err() {
             child.kill()?;
+            child.wait()?;
+            return Err(io::Error::new(io::ErrorKind::TimedOut, "stuck, and ended"));
         }
         let code = child.wait()?.code();
         let taken = |bytes: thread::Result<io::Result<Vec<u8>>>| bytes.expect("the thread ends");

@@ -3,8 +3,7 @@
 use super::shape::{self, Shape};
 use super::{block, fit, mode_words, places};
 
-/// Source 000, table 1: layers of a compact symbol (0 where there is none), side, words.
-/// Rows of one side of the table stand in one line.
+/// Source 000, table 1: side and words of each shape, by layers.
 const TABLE_1_COMPACT: [(usize, usize); 4] = [(15, 17), (19, 40), (23, 51), (27, 76)];
 #[rustfmt::skip]
 const TABLE_1_FULL: [(usize, usize); 32] = [

@@ -18,7 +18,8 @@ pub fn data(shape: Shape) -> Vec<Place> {
 /// rows and columns (full)".
 pub fn kept(shape: Shape) -> Vec<usize> {
     let centre = shape.side() / 2;
-    let reference = |i: usize| shape.family == Family::Full && centre.abs_diff(i) % 16 == 0;
+    let reference =
+        |i: usize| shape.family == Family::Full && centre.abs_diff(i).is_multiple_of(16);
     (0..shape.side()).filter(|&i| !reference(i)).collect()
 }
 
