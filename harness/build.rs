@@ -1,7 +1,7 @@
 //! Links the archives under test, that of the stream only where it exists, and libfec only
 //! where its feature is asked for. The maker is called only where the archive has it.
 
-use std::{env, fs, path::Path};
+use std::{env, path::Path, process::Command};
 
 fn main() {
     let manifest = env::var("CARGO_MANIFEST_DIR").expect("cargo names the manifest's folder");
@@ -13,7 +13,7 @@ fn main() {
     println!("cargo:rustc-link-search=native={}", folder.display());
     println!("cargo:rustc-link-lib=static=aztec_c");
     println!("cargo:rustc-check-cfg=cfg(aztec_encode)");
-    if names(&aztec, "aztec_encode") {
+    if defines(&aztec, "aztec_encode") {
         println!("cargo:rustc-cfg=aztec_encode");
     }
     let stream = folder.join("libstream_c.a");
@@ -28,10 +28,14 @@ fn main() {
     }
 }
 
-/// Whether an archive names a symbol: the name stands between zeros in the table of strings
-/// of the object that defines it.
-fn names(archive: &Path, symbol: &str) -> bool {
-    let name = format!("\0{symbol}\0").into_bytes();
-    let bytes = fs::read(archive).unwrap_or_default();
-    bytes.windows(name.len()).any(|window| window == name)
+/// Whether an archive defines a function, by `nm`, which comes with the linker.
+fn defines(archive: &Path, function: &str) -> bool {
+    let listed = Command::new("nm")
+        .args(["--extern-only", "--defined-only"])
+        .arg(archive)
+        .output()
+        .expect("nm can be run");
+    let line_end = format!(" T {function}");
+    let lines = String::from_utf8_lossy(&listed.stdout);
+    lines.lines().any(|line| line.ends_with(&line_end))
 }
