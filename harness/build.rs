@@ -1,19 +1,21 @@
 //! Links the archives under test, that of the stream only where it exists, and libfec only
-//! where its feature is asked for.
+//! where its feature is asked for. The maker is called only where the archive has it.
 
-use std::{env, path::Path};
+use std::{env, path::Path, process::Command};
 
 fn main() {
     let manifest = env::var("CARGO_MANIFEST_DIR").expect("cargo names the manifest's folder");
     let folder = env::var("AZTEC_LIB_DIR").unwrap_or_else(|_| "../target/staticlib".into());
     let folder = Path::new(&manifest).join(folder);
     println!("cargo:rerun-if-env-changed=AZTEC_LIB_DIR");
-    println!(
-        "cargo:rerun-if-changed={}",
-        folder.join("libaztec_c.a").display()
-    );
+    let aztec = folder.join("libaztec_c.a");
+    println!("cargo:rerun-if-changed={}", aztec.display());
     println!("cargo:rustc-link-search=native={}", folder.display());
     println!("cargo:rustc-link-lib=static=aztec_c");
+    println!("cargo:rustc-check-cfg=cfg(aztec_encode)");
+    if defines(&aztec, "aztec_encode") {
+        println!("cargo:rustc-cfg=aztec_encode");
+    }
     let stream = folder.join("libstream_c.a");
     println!("cargo:rerun-if-changed={}", stream.display());
     println!("cargo:rustc-check-cfg=cfg(stream_c)");
@@ -24,4 +26,16 @@ fn main() {
     if env::var_os("CARGO_FEATURE_LIBFEC").is_some() {
         println!("cargo:rustc-link-lib=fec");
     }
+}
+
+/// Whether an archive defines a function, by `nm`, which comes with the linker.
+fn defines(archive: &Path, function: &str) -> bool {
+    let listed = Command::new("nm")
+        .args(["--extern-only", "--defined-only"])
+        .arg(archive)
+        .output()
+        .expect("nm can be run");
+    let line_end = format!(" T {function}");
+    let lines = String::from_utf8_lossy(&listed.stdout);
+    lines.lines().any(|line| line.ends_with(&line_end))
 }

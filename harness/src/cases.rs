@@ -3,9 +3,15 @@
 #[cfg(stream_c)]
 pub mod blocks;
 pub mod damage;
+pub mod drawings;
+pub mod edges;
+pub mod kinds;
 pub mod large;
 pub mod named;
+pub mod records;
+pub mod refused;
 pub mod small;
+pub mod tags;
 #[cfg(stream_c)]
 pub mod text;
 pub mod unlawful;

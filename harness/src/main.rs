@@ -4,39 +4,62 @@
 //! `harness bench` prints times, beside libfec's with the feature `libfec`.
 //! `harness compare-stream [--seed N] [--count N]` and `harness bench-stream` do the same for
 //! the bit stream, where the archive `libstream_c.a` was there when the harness was built.
+//! `harness compare-encode [--seed N] [--count N]` and `harness bench-encode` do so for the
+//! maker, where `libaztec_c.a` defined `aztec_encode` when the harness was built.
+//! `harness compare-listing PROGRAM [--seed N] [--count N]` and `harness bench-listing PROGRAM`
+//! run the print run's program; `harness own-listing [FILE]` lists by the harness's own maker.
+//! `harness draw-list FOLDER [--own]` draws 300 symbols for another reader.
 
 mod bench;
 mod cases;
 mod compare;
+mod encode;
 mod field;
 mod guard;
+mod listing;
 mod peer;
 mod random;
 mod reference;
-#[cfg(stream_c)]
 mod stream;
+mod symbol;
 
 use std::process::ExitCode;
 
 const USAGE: &str = "usage: harness compare [--seed N] [--count N] | harness bench
-       harness compare-stream [--seed N] [--count N] | harness bench-stream";
+       harness compare-stream [--seed N] [--count N] | harness bench-stream
+       harness compare-encode [--seed N] [--count N] | harness bench-encode
+       harness compare-listing PROGRAM [--seed N] [--count N] | harness bench-listing PROGRAM
+       harness own-listing [FILE] | harness draw-list FOLDER [--own]";
 const SEED: u64 = 24_778;
+
+/// How many cases by chance, where `--count` doesn't say: blocks or messages for the corrector
+/// and the stream, messages for the maker, files for the print run.
 const COUNT: usize = 20_000;
+const ENCODE_COUNT: usize = 6_000;
+const LISTING_COUNT: usize = 200;
 
 fn main() -> ExitCode {
     let arguments: Vec<String> = std::env::args().skip(1).collect();
     let words: Vec<&str> = arguments.iter().map(String::as_str).collect();
     match words.as_slice() {
         ["bench"] => bench::run(),
-        ["compare", options @ ..] => match parsed(options) {
-            Some((seed, count)) => compare::run(seed, count),
-            None => usage(),
-        },
+        ["compare", options @ ..] => with_options(options, COUNT, compare::run),
         ["bench-stream"] => bench_stream(),
-        ["compare-stream", options @ ..] => match parsed(options) {
-            Some((seed, count)) => compare_stream(seed, count),
-            None => usage(),
-        },
+        ["compare-stream", options @ ..] => with_options(options, COUNT, compare_stream),
+        ["bench-encode"] => encode::bench::run(),
+        ["compare-encode", options @ ..] => {
+            with_options(options, ENCODE_COUNT, encode::compare::run)
+        }
+        ["bench-listing", program] => listing::bench::run(program),
+        ["compare-listing", program, options @ ..] => {
+            with_options(options, LISTING_COUNT, |seed, count| {
+                listing::compare::run(program, seed, count)
+            })
+        }
+        ["own-listing"] => listing::own::run(None),
+        ["own-listing", file] => listing::own::run(Some(file)),
+        ["draw-list", folder] => encode::draw::run(folder, false),
+        ["draw-list", folder, "--own"] => encode::draw::run(folder, true),
         _ => usage(),
     }
 }
@@ -60,9 +83,21 @@ fn usage() -> ExitCode {
     ExitCode::from(2)
 }
 
+/// Runs a comparison with the seed and count that the options give.
+fn with_options(
+    options: &[&str],
+    count: usize,
+    compare: impl FnOnce(u64, usize) -> ExitCode,
+) -> ExitCode {
+    match parsed(options, count) {
+        Some((seed, count)) => compare(seed, count),
+        None => usage(),
+    }
+}
+
 /// Seed and count from `--seed N` and `--count N`, in any order.
-fn parsed(options: &[&str]) -> Option<(u64, usize)> {
-    let (mut seed, mut count) = (SEED, COUNT);
+fn parsed(options: &[&str], mut count: usize) -> Option<(u64, usize)> {
+    let mut seed = SEED;
     for pair in options.chunks(2) {
         match pair {
             ["--seed", number] => seed = number.parse().ok()?,

@@ -4,8 +4,9 @@ use super::walks::KINDS;
 use crate::random::Random;
 use crate::stream::codes::{Code, Set, SETS};
 use crate::stream::read::unstuffed;
+use crate::stream::read::Reading;
 use crate::stream::write::{stuffed, Writer};
-use crate::stream::{Reading, SIZES};
+use crate::stream::SIZES;
 
 pub struct Block {
     pub label: &'static str,

@@ -2,7 +2,7 @@
 
 use super::calls::{judge, message, write, Judged};
 use super::{words_of, SIZES};
-use crate::cases::text::mixed;
+use crate::cases::kinds::mixed;
 use std::hint::black_box;
 use std::process::ExitCode;
 use std::time::Instant;

@@ -1,6 +1,6 @@
 //! The calls of the stream, with every lent buffer inside a larger one.
 
-use super::Reading;
+use super::read::Reading;
 use crate::guard::{mark_pattern, untouched, word_pattern, Guarded};
 
 #[repr(C)]

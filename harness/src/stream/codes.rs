@@ -1,5 +1,7 @@
 //! The table of "Five code sets, 5 bits a code, Digit 4".
 
+use std::sync::OnceLock;
+
 #[derive(Clone, Copy, PartialEq, Eq, Debug)]
 pub enum Set {
     Upper,
@@ -77,12 +79,26 @@ impl Set {
 
     /// The number of a code in this set, if the set has it.
     pub fn number(self, code: Code) -> Option<usize> {
+        match code {
+            Byte(byte) => numbers()[self as usize][usize::from(byte)],
+            _ => self.searched(code),
+        }
+    }
+
+    fn searched(self, code: Code) -> Option<usize> {
         (0..1 << self.width()).find(|&number| self.code(number) == code)
     }
 
     pub fn has(self, byte: u8) -> bool {
         self.number(Byte(byte)).is_some()
     }
+}
+
+/// The numbers of all bytes in each set, searched once, for speed only.
+fn numbers() -> &'static [Vec<Option<usize>>; 5] {
+    static NUMBERS: OnceLock<[Vec<Option<usize>>; 5]> = OnceLock::new();
+    let all = |set: Set| (0..=255).map(|byte| set.searched(Byte(byte))).collect();
+    NUMBERS.get_or_init(|| SETS.map(all))
 }
 
 /// The first set in order that has a one-byte code for `byte`.

@@ -1,9 +1,11 @@
 //! Runs every message and every block of words against the library and counts.
 
 use super::calls::{counted, judged, written};
-use super::{codes, read, reading_of, words_of, write, LONGEST, SIZES};
+use super::read::{reading_of, unstuffed};
+use super::{codes, words_of, write, LONGEST, SIZES};
 use crate::cases::blocks::{self, Block};
-use crate::cases::text::{self, Text, PRINTED};
+use crate::cases::kinds::{self, Text};
+use crate::cases::text;
 use crate::compare::{on_small_stack, Tally};
 use crate::random::Random;
 use std::process::ExitCode;
@@ -117,14 +119,9 @@ fn told_block(block: &Block) -> String {
 /// words, the classes of bytes, and that unstuffing undoes stuffing up to fewer than B 1s.
 fn own_faults(seed: u64) -> Vec<String> {
     let mut faults = Vec::new();
-    let tables = codes::faults() + text::faults();
+    let tables = codes::faults() + kinds::faults() + write::faults();
     if tables > 0 {
-        faults.push(format!("{tables} faults of the tables"));
-    }
-    for (message, size, words) in PRINTED {
-        if words_of(message, size) != words {
-            faults.push(format!("the words of {message:?} at B {size}"));
-        }
+        faults.push(format!("{tables} faults of tables and printed words"));
     }
     let mut random = Random::new(seed ^ 7);
     for i in 0..4_000 {
@@ -134,7 +131,7 @@ fn own_faults(seed: u64) -> Vec<String> {
         let len = random.within(1, 60);
         let bits: Vec<bool> = (0..len).map(|_| random.chance(one_in) != turned).collect();
         let words = write::stuffed(&bits, size);
-        let back = read::unstuffed(&words, size);
+        let back = unstuffed(&words, size);
         let fill = back.strip_prefix(bits.as_slice());
         let ones = |fill: &[bool]| fill.len() < size as usize && fill.iter().all(|&bit| bit);
         let edge = |&word: &u16| word == 0 || word == (1 << size) - 1;

@@ -1,7 +1,20 @@
 //! "Drop the stuffed bits and read items."
 
 use super::codes::{Code, Set};
-use super::Reading;
+
+/// The message, or 18, 19, 20 and the bit place at which the item at fault starts, counted
+/// after the stuffed bits are dropped (18: place 0).
+pub type Reading = Result<Vec<u8>, (u32, usize)>;
+
+/// What corrected data words read to. 18 comes first, whatever the items are: "Lower numbers
+/// come first when several apply".
+pub fn reading_of(words: &[u16], size: u32) -> Reading {
+    let all_ones = (1u32 << size) - 1;
+    if words.iter().any(|&w| w == 0 || u32::from(w) == all_ones) {
+        return Err((18, 0));
+    }
+    message(&unstuffed(words, size), size)
+}
 
 /// The bits of words that are neither all 0s nor all 1s: where the first B − 1 are equal,
 /// the last is dropped.
@@ -79,7 +92,7 @@ impl Cursor<'_> {
 }
 
 /// Reads items to the stop; the first item at fault gives the number and its own place.
-pub fn message(bits: &[bool], size: u32) -> Reading {
+fn message(bits: &[bool], size: u32) -> Reading {
     let mut cursor = Cursor { bits, place: 0 };
     let mut set = Set::Upper;
     let mut message = Vec::new();

@@ -2,6 +2,16 @@
 
 use super::codes::{first_with, Code, Set};
 
+/// Message, word size and words: "Tags on the bench".
+pub const PRINTED: [(&[u8], u32, &[u16]); 6] = [
+    (b"A", 6, &[5]),
+    (b"POT", 6, &[35, 2, 47]),
+    (b"12", 6, &[60, 26, 31]),
+    (b"aB", 6, &[56, 11, 55, 3]),
+    (b"\0", 6, &[62, 2, 1, 15]),
+    (b"A", 8, &[23]),
+];
+
 /// A stream as it grows, and the set it is in.
 pub struct Writer {
     pub bits: Vec<bool>,
@@ -120,4 +130,13 @@ pub fn stuffed(bits: &[bool], size: u32) -> Vec<u16> {
         );
     }
     words
+}
+
+/// Printed messages whose words come out unlike the printed ones.
+pub fn faults() -> usize {
+    let unlike = PRINTED.iter().filter(|(message, size, words)| {
+        let made = super::words_of(message, *size);
+        made != *words
+    });
+    unlike.count()
 }

@@ -1,0 +1,95 @@
+//! The maker of document 01, written from its words alone: message and percentage to grid.
+//!
+//! Stream and stuffing are `stream`'s, the check words `reference`'s long division.
+
+pub mod faults;
+pub mod grid;
+pub mod places;
+pub mod shape;
+
+use self::grid::Grid;
+use self::shape::{Family, Shape};
+use crate::field::Field;
+use crate::reference::Maker;
+use crate::stream::write::{stream, stuffed};
+
+/// The shape a message goes into, and its data words there.
+pub struct Fit {
+    pub shape: Shape,
+    pub data: Vec<u16>,
+}
+
+impl Fit {
+    /// K.
+    pub fn check_words(&self) -> usize {
+        self.shape.words() - self.data.len()
+    }
+
+    /// The side² modules.
+    pub fn modules(&self) -> Vec<u8> {
+        let mode = bits_of(&mode_words(self.shape, self.data.len()), 4);
+        let grid = Grid::drawn(self.shape, &mode, &data_bits(self.shape, &self.data));
+        assert!(grid.complete(), "every module of a symbol is drawn");
+        grid.modules
+    }
+}
+
+/// The fit, or the number of the refusal that no grid buffer changes: 1, 2 or 3.
+pub fn fit(message: &[u8], percent: u32) -> Result<Fit, u32> {
+    if message.is_empty() {
+        return Err(1);
+    }
+    if !(5..=95).contains(&percent) {
+        return Err(2);
+    }
+    let bits = stream(message);
+    let mut size = 0;
+    let mut data = Vec::new();
+    for shape in shape::listed() {
+        // "The stream is stuffed anew for each B."
+        if shape.word_size() != size {
+            size = shape.word_size();
+            data = stuffed(&bits, size);
+        }
+        if data.len() <= shape.most_data(percent) {
+            return Ok(Fit { shape, data });
+        }
+    }
+    Err(3)
+}
+
+/// "Compact: L − 1 in 2 bits, D − 1 in 6, then 5 check words. Full: 5 and 11 bits, then 6
+/// check words."
+pub fn mode_words(shape: Shape, data_words: usize) -> Vec<u16> {
+    let (length_bits, words, check_words) = match shape.family {
+        Family::Compact => (6, 2, 5),
+        Family::Full => (11, 4, 6),
+    };
+    let mode = (shape.layers - 1) << length_bits | (data_words - 1);
+    let data: Vec<u16> = (0..words)
+        .rev()
+        .map(|i| (mode >> (4 * i) & 15) as u16)
+        .collect();
+    block(4, &data, check_words)
+}
+
+/// "The first Cb mod B bits are 0 …; then data words, then check words, each higher bit
+/// first."
+pub fn data_bits(shape: Shape, data: &[u16]) -> Vec<bool> {
+    let size = shape.word_size();
+    let words = block(size, data, shape.words() - data.len());
+    let mut bits = vec![false; shape.bits() % size as usize];
+    bits.extend(bits_of(&words, size));
+    bits
+}
+
+/// The valid block that starts with the data words.
+pub fn block(size: u32, data: &[u16], check_words: usize) -> Vec<u16> {
+    let field = Field::of(size).expect("a listed size");
+    Maker::new(field, check_words).block(data)
+}
+
+fn bits_of(words: &[u16], size: u32) -> Vec<bool> {
+    let bits = |&word: &u16| (0..size).rev().map(move |place| word >> place & 1 == 1);
+    words.iter().flat_map(bits).collect()
+}
