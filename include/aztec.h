@@ -23,6 +23,22 @@ uint32_t aztec_correct(uint32_t word_size, size_t check_words,
                        const uint8_t *marks, size_t marks_length,
                        uint16_t *corrected, size_t corrected_length);
 
+/* What the encoder answers. A number other than 0 comes with zeros in the other fields. */
+struct aztec_encoded {
+  uint32_t number;
+  uint32_t shape;       /* 1 to 4 for compact, 1 to 4 layers; 5 to 36 for full, 1 to 32 layers */
+  uint32_t side;        /* modules along an edge */
+  uint32_t data_words;
+  uint32_t check_words;
+};
+
+/* The encoder. percent is the least share of check words, 5 to 95. grid has one byte a module, row by row from the top.
+   0: the first side * side bytes of grid are the symbol, 0 light and 1 dark, and the rest is as it was.
+   1: the message is empty. 2: percent is outside 5 to 95. 3: the message fits no shape. 4: grid is shorter than side * side; 151 * 151
+   is enough for every message. A lower number comes first, and a number other than 0 leaves grid as it was. */
+struct aztec_encoded aztec_encode(const uint8_t *message, size_t message_length, uint32_t percent,
+                                  uint8_t *grid, size_t grid_length);
+
 #ifdef __cplusplus
 }
 #endif

@@ -1,6 +1,8 @@
 // The interface for C and Rust (include/aztec.h), thin: each function is a library's entry under its C name, with the same contract.
 ghost use mathlib.Core.Path.{_≡_};
 ghost use Rattle.reed_solomon.specs.Correct.{correctOf};
+ghost use Rattle.encoder.specs.Encode.{encodeOf};
+ghost use Rattle.aztec_c.specs.Fields.{fieldsOf};
 
 #[no_mangle]
 pub extern "C" fn aztec_correct(
@@ -14,4 +16,29 @@ pub extern "C" fn aztec_correct(
     ensures { λ r. ⌜ now (corrected .exit) ≡ correctOf «word_size» «check_words» (now (received .entry)) (now (marks .entry)) (now (corrected .entry)) .words ⌝ }
 {
     reed_solomon::correct(word_size, check_words, received, marks, corrected)
+}
+
+// The fields of encoder::Encoded, laid out as C lays them out.
+#[repr(C)]
+pub struct AztecEncoded {
+    pub number: u32,
+    pub shape: u32,
+    pub side: u32,
+    pub data_words: u32,
+    pub check_words: u32,
+}
+
+#[no_mangle]
+pub extern "C" fn aztec_encode(message: &[u8], percent: u32, grid: &mut [u8]) -> AztecEncoded
+    ensures { λ r. ⌜ r ≡ fieldsOf (encodeOf (now (message .entry)) percent (now (grid .entry)) .answer) ⌝ }
+    ensures { λ r. ⌜ now (grid .exit) ≡ encodeOf (now (message .entry)) percent (now (grid .entry)) .grid ⌝ }
+{
+    let answer = encoder::encode(message, percent, grid);
+    AztecEncoded {
+        number: answer.number,
+        shape: answer.shape,
+        side: answer.side,
+        data_words: answer.data_words,
+        check_words: answer.check_words,
+    }
 }
