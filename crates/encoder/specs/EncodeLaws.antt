@@ -9,10 +9,10 @@ use native.Mathlib.Nat.{le-trans, mul-le-mul}
 use native.Mathlib.Omega.{arith}
 use lib.Dec.{T, eqb, ltb, leb, leb→le}
 use lib.ListN.{length}
-use borrow.Author.Tests.{eq-eqb, ne-eqb, le-leb, lt-leb}
+use borrow.Author.Tests.{eq-eqb, ne-eqb, le-leb, lt-leb, ltb-true, ltb-false}
 use Rattle.list_laws.specs.Range.{all}
 use Rattle.stream.specs.Below.{Bytes}
-use Rattle.symbol.specs.Shapes.{side, bits, wordSize, words, isFull, layers, Shaped}
+use Rattle.symbol.specs.Shapes.{side, bits, wordSize, words, isFull, layers, numberOf, Shaped}
 use Rattle.symbol.specs.DataPlaces.{side-most}
 use Rattle.symbol.specs.ShapeTable.{everyShape, at-shape}
 use Rattle.encoder.specs.declared.Encoded.{Encoded}
@@ -41,12 +41,40 @@ module _ (message : List ℕ) (percent : ℕ) (grid : List ℕ) where
 pub record Answered (message : List ℕ) (e : Encoded) : Type 0 where
   pub fits : Fitting message (isFull (e .shape)) (layers (e .shape)) (e .«data_words»)
   pub side-is : e .side ≡ side (isFull (e .shape)) (layers (e .shape))
+  pub checks-are : e .«check_words» ≡ words (isFull (e .shape)) (layers (e .shape)) - e .«data_words»
+  pub number-is : numberOf (isFull (e .shape)) (layers (e .shape)) ≡ e .shape
+  pub large : isFull (e .shape) ≡ true → 4 ≤ layers (e .shape)
+
+number-back : (s : ℕ) → numberOf (isFull s) (layers s) ≡ s
+unfolding isFull layers numberOf
+number-back s = go (ltb 4 s) refl
+  where
+    go : (b : Bool) → ltb 4 s ≡ b → numberOf b (cond b (s - 4) s) ≡ s
+    go true e = omega (arith, ltb-true 4 s e)
+    go false e = refl
+
+-- F1 to F3 are not listed
+listed-large : (i : ℕ) → isFull (listed i) ≡ true → 4 ≤ layers (listed i)
+unfolding listed isFull layers
+listed-large i = go (ltb i 4) refl
+  where
+    go : (b : Bool) → ltb i 4 ≡ b → ltb 4 (cond b (i + 1) (i + 4)) ≡ true
+        → 4 ≤ cond (ltb 4 (cond b (i + 1) (i + 4))) (cond b (i + 1) (i + 4) - 4) (cond b (i + 1) (i + 4))
+    go true e t = absurd (omega (arith, ltb-true i 4 e, ltb-true 4 (i + 1) t))
+    go false e t = subst (λ b. 4 ≤ cond b (i + 4 - 4) (i + 4)) (sym t) (omega (arith, ltb-false i 4 e))
 
 pub answered : (message : List ℕ) (percent : ℕ) → Bytes message → (e : Encoded) → e ≡ planOf message percent → e .number ≡ 0 → Answered message e
 unfolding planned
 answered message percent x e p z =
     let made = plan-fits message percent (sym (ap (λ r. r .number) p) ∙ z) in
-    subst (Answered message) (sym (p ∙ made .answer)) (record { fits = fitting message percent x made; side-is = refl })
+    subst (Answered message) (sym (p ∙ made .answer))
+    (record {
+      fits = fitting message percent x made;
+      side-is = refl;
+      checks-are = refl;
+      number-is = number-back (listed (made .place));
+      large = listed-large (made .place);
+    })
 
 -- no block has more words than F32's
 pub words-all : (f : Bool) (L : ℕ) → Shaped f L → words f L ≤ 1664

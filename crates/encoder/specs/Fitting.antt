@@ -3,7 +3,7 @@
 use mathlib.Core.Path.{_≡_, refl, sym, ap, ap₂, _∙_, subst}
 use mathlib.Core.Bool.{Bool, true, false, cond, _&&_, _||_}
 use mathlib.Core.List.{List, _++_}
-use mathlib.Core.Option.{Option, none, some, Option·some-injective, Option·none-ne-some}
+use mathlib.Core.Option.{Option, none, some}
 use Prim.Native.Nat.{ℕ, zero, suc, _+_, _*_, _-_, _/_, _^_, _≤_, _<_}
 use native.Mathlib.Nat.{mul-le-mul-right, le-trans, div-add-mod'}
 use native.Mathlib.Omega.{arith}
@@ -11,6 +11,7 @@ use lib.Dec.{eqb, ltb, leb, leb→le}
 use lib.ListN.{length, getD, take, drop, length-append}
 use lib.Seq.{sets, sets-eq, take-at}
 use borrow.Author.Tests.{eqb-false, ltb-true, ltb-false}
+use Rattle.list_laws.specs.Search.{firstFrom, first-found}
 use Rattle.list_laws.specs.Tests.{both-parts, holds}
 use Rattle.finite_field.specs.Field as field
 use Rattle.reed_solomon.specs.Block.{Words, Valid}
@@ -24,7 +25,7 @@ use Rattle.stream.specs.StuffingLaws.{stuffed-codewords, codeword-at}
 use Rattle.stream.specs.StreamLength.{words-of-message, message-bits}
 use Rattle.symbol.specs.Shapes.{bits, wordSize, words, mostWords, mostLayers, isFull, layers, Shaped, bits-most, word-size-range}
 use Rattle.encoder.specs.declared.Encoded.{Encoded}
-use Rattle.encoder.specs.Plan.{dataWords, leastCheck, fits, listed, firstFrom, fitsListed, planned, plannedFor, refused, planOf}
+use Rattle.encoder.specs.Plan.{dataWords, leastCheck, fits, listed, fitsListed, planned, plannedFor, refused, planOf}
 use Rattle.encoder.specs.PlanLaws.{listed-bounds, layers-most}
 use Rattle.encoder.specs.Encode.{block}
 
@@ -43,16 +44,6 @@ pub record Planned (message : List ℕ) (percent : ℕ) : Type 0 where
   pub some-bytes : 0 < length message
   pub fit : fitsListed message percent place ≡ true
   pub answer : planOf message percent ≡ planned message (listed place)
-
-first-found : (test : ℕ → Bool) (n i k : ℕ) → firstFrom test i n ≡ some k → (test k ≡ true) × (k < i + n)
-unfolding firstFrom
-first-found test zero i k e = absurd (Option·none-ne-some k e)
-first-found test (suc n) i k e = go (test i) refl e (first-found test n (i + 1) k)
-  where
-    go : (b : Bool) → test i ≡ b → cond b (some i) (firstFrom test (i + 1) n) ≡ some k
-        → (firstFrom test (i + 1) n ≡ some k → (test k ≡ true) × (k < i + 1 + n)) → (test k ≡ true) × (k < i + suc n)
-    go true t p rec = (sym (ap test (Option·some-injective i k p)) ∙ t, omega (arith, Option·some-injective i k p))
-    go false t p rec = (rec p .0, omega (arith, rec p .1))
 
 -- the answer 0 is that of a plan
 pub plan-fits : (message : List ℕ) (percent : ℕ) → planOf message percent .number ≡ 0 → Planned message percent

@@ -5,3 +5,4 @@ pub mod Encode
 pub mod Fitting
 pub mod ModeLaws
 pub mod EncodeLaws
+pub mod Examples

@@ -6,6 +6,7 @@ use mathlib.Core.Option.{Option, none, some}
 use Prim.Native.Nat.{ℕ, zero, suc, _+_, _*_, _-_, _/_}
 use lib.Dec.{eqb, leb, ltb}
 use lib.ListN.{length}
+use Rattle.list_laws.specs.Search.{firstFrom}
 use Rattle.encoder.specs.declared.Encoded.{Encoded}
 use Rattle.stream.specs.Stream.{bitsOf}
 use Rattle.stream.specs.Stuffing.{stuff}
@@ -34,11 +35,6 @@ listed i = cond (ltb i 4) (i + 1) (i + 4)
 -- how many they are
 abbrev pub shapes : ℕ
 shapes = 33
-
--- the first number from i on that passes a test, of n numbers
-unfoldable pub firstFrom : (ℕ → Bool) → ℕ → ℕ → Option ℕ
-firstFrom test i zero = none
-firstFrom test i (suc n) = cond (test i) (some i) (firstFrom test (i + 1) n)
 
 unfoldable pub fitsListed : List ℕ → ℕ → ℕ → Bool
 fitsListed message percent i =

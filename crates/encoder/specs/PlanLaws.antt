@@ -3,7 +3,6 @@
 use mathlib.Core.Path.{_≡_, refl, sym, ap, ap₂, _∙_, subst}
 use mathlib.Core.Bool.{Bool, true, false, cond, _&&_}
 use mathlib.Core.List.{List}
-use mathlib.Core.Option.{Option, none, some}
 use Prim.Native.Nat.{ℕ, zero, suc, _+_, _*_, _-_, _/_, _≤_, _<_}
 use native.Mathlib.Nat.{mul-le-mul, mul-le-mul-right, le-trans, le-refl, div-add-mod'}
 use native.Mathlib.Omega.{arith}
@@ -18,7 +17,7 @@ use Rattle.stream.specs.StreamLength.{words-of-message}
 use Rattle.stream_writer.specs.Encoding.{wordsNeeded}
 use Rattle.symbol.specs.Shapes.{side, bits, wordSize, words, mostWords, isFull, layers, bits-most, word-size-range}
 use Rattle.encoder.specs.declared.Encoded.{Encoded}
-use Rattle.encoder.specs.Plan.{dataWords, leastCheck, fits, listed, firstFrom, fitsListed, planned}
+use Rattle.encoder.specs.Plan.{dataWords, leastCheck, fits, listed, fitsListed, planned}
 
 -- the answer for D words in a shape
 abbrev pub chosen : ℕ → Bool → ℕ → ℕ → Encoded
@@ -102,22 +101,6 @@ needed-is message percent f L h t = go (leb (length message) 4992) t
         → cond b (length (stuff (wordSize L) (bitsOf message))) 4993 ≡ length (stuff (wordSize L) (bitsOf message))
     go true e = refl
     go false e = absurd (omega (arith, fit-words percent f L 4993 e, too-many f L 4993 h (omega (arith, word-size-range L))))
-
--- the search: it stops at the first that passes, or goes on
-module _ (test : ℕ → Bool) where
-  pub first-here : (i n : ℕ) → 0 < n → test i ≡ true → firstFrom test i n ≡ some i
-  unfolding firstFrom
-  first-here i zero h e = absurd (omega arith)
-  first-here i (suc n) h e = rw e refl
-
-  pub first-next : (i n : ℕ) → 0 < n → test i ≡ false → firstFrom test i n ≡ firstFrom test (i + 1) (n - 1)
-  unfolding firstFrom
-  first-next i zero h e = absurd (omega arith)
-  first-next i (suc n) h e = rw e (ap (firstFrom test (i + 1)) (let z : n ≡ suc n - 1 = omega arith in z))
-
-  pub first-none : (i : ℕ) → firstFrom test i 0 ≡ none
-  unfolding firstFrom
-  first-none i = refl
 
 -- what the list holds
 pub listed-bounds : (i : ℕ) → i < 33 → (1 ≤ listed i) × (listed i ≤ 36)

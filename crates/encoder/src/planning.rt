@@ -4,6 +4,7 @@ use stream_writer::encoding;
 use symbol::shapes;
 ghost use mathlib.Core.Path.{_≡_};
 ghost use Prim.Native.Nat.{_-_, _≤_, _<_};
+ghost use Rattle.list_laws.specs.Search.{firstFrom};
 ghost use Rattle.stream_writer.specs.Encoding.{wordsNeeded};
 ghost use Rattle.symbol.specs.Shapes as shapes;
 ghost use Rattle.encoder.specs.Plan as spec;
@@ -87,7 +88,7 @@ fn planned(number: usize, full: bool, layers: usize, data_words: usize) -> Encod
 // The shapes are tried in the order of the list.
 pub fn first_fit(message: &[u8], percent: u32) -> Encoded
     requires { ⌜ percent ≤ 95 ⌝ }
-    ensures { λ r. ⌜ r ≡ spec.plannedFor (now (message .entry)) (spec.firstFrom (spec.fitsListed (now (message .entry)) percent) 0 33) ⌝ }
+    ensures { λ r. ⌜ r ≡ spec.plannedFor (now (message .entry)) (firstFrom (spec.fitsListed (now (message .entry)) percent) 0 33) ⌝ }
 {
     let mut counted = Counted {
         size: 6,

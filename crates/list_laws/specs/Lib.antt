@@ -4,4 +4,6 @@ pub mod Filled
 pub mod Downward
 pub mod Parts
 pub mod Writes
+pub mod Putting
 pub mod Table
+pub mod Search

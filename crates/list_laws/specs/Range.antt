@@ -101,6 +101,16 @@ unfolding count
 count-most zero p = le-refl 0
 count-most (suc n) p = omega (arith, one-most (p zero), count-most n (λ i. p (suc i)))
 
+one-not : (b : Bool) → one b + one (not b) ≡ 1
+one-not true = refl
+one-not false = refl
+
+-- each passes the test or its negation
+pub count-not : (n : ℕ) (p : ℕ → Bool) → count n p + count n (λ i. not (p i)) ≡ n
+unfolding count
+count-not zero p = refl
+count-not (suc n) p = omega (arith, one-not (p zero), count-not n (λ i. p (suc i)))
+
 -- whether all of the numbers below n pass the test
 unfoldable pub all : ℕ → (ℕ → Bool) → Bool
 all zero p = true

@@ -83,15 +83,12 @@ fn told(stderr: &[u8]) -> String {
     format!("standard error \"{}\"", start.escape_ascii())
 }
 
-/// A file that isn't there: something on standard error, nothing on standard output, and an
-/// exit status other than 0.
+/// A file that isn't there: something on standard error and nothing on standard output. The exit
+/// status isn't judged: a Rattle program has none of its own.
 fn missing(program: &str, folder: &Folder, tally: &mut Tally) -> io::Result<()> {
     let path = folder.path("missing");
     let got = run_program(program, Input::Argument(&path))?;
     let mut list = Vec::new();
-    if got.code.is_none_or(|code| code == 0) {
-        list.push(format!("ended with {:?}", got.code));
-    }
     if got.stderr.is_empty() {
         list.push("nothing on standard error".into());
     }

@@ -6,11 +6,12 @@ use mathlib.Core.Bool.{true, false}
 use Prim.Native.Nat.{ℕ, _+_, _-_, _≤_, _<_}
 use native.Mathlib.Omega.{arith}
 use lib.Dec.{ltb}
+use Rattle.list_laws.specs.Search.{firstFrom, first-here, first-next, first-none}
 use Rattle.stream.specs.Below.{Bytes, below-of}
 use Rattle.stream_writer.specs.Encoding.{wordsNeeded}
 use Rattle.symbol.specs.Shapes.{word-size-range}
-use Rattle.encoder.specs.Plan.{fits, listed, firstFrom, fitsListed, plannedFor}
-use Rattle.encoder.specs.PlanLaws.{fit-words, first-here, first-next, first-none, Tried, tried-layers, tried-fits, tried-answer}
+use Rattle.encoder.specs.Plan.{fits, listed, fitsListed, plannedFor}
+use Rattle.encoder.specs.PlanLaws.{fit-words, Tried, tried-layers, tried-fits, tried-answer}
 use Rattle.encoder.proofs.planning.first_fit.Statement.{statement}
 use Rattle.encoder.proofs.planning.first_fit.Tie as tie
 

@@ -1,0 +1,5 @@
+pub mod Stages
+pub mod Decode
+pub mod DamagedTag
+pub mod ReadsBack
+pub mod Undamaged

@@ -1,0 +1,5 @@
+pub mod Position
+pub mod PositionLaws
+pub mod Family
+pub mod Sides
+pub mod Examples
