@@ -1,0 +1,3 @@
+pub mod Flat
+pub mod Lines
+pub mod Sampled
