@@ -35,6 +35,16 @@ put v l h = words-cons (sizeOf 4) (v % 16) l (mod-lt v (omega arith)) h
 none : Words (sizeOf 4) []
 none = words-below (sizeOf 4) [] 0 refl (λ i h. absurd (omega arith))
 
+-- words of 4 bits stored at the front are words
+pub two-words : (l : List ℕ) (a b : ℕ) → 2 ≤ length l → Words (sizeOf 4) (take 2 (set (set l 0 (a % 16)) 1 (b % 16)))
+two-words l a b h = subst (Words (sizeOf 4)) (sym (stored-two l (a % 16) (b % 16) h)) (put a (b % 16 ∷ []) (put b [] none))
+
+pub four-words : (l : List ℕ) (a b c d : ℕ) → 4 ≤ length l
+    → Words (sizeOf 4) (take 4 (set (set (set (set l 0 (a % 16)) 1 (b % 16)) 2 (c % 16)) 3 (d % 16)))
+four-words l a b c d h =
+    subst (Words (sizeOf 4)) (sym (stored-four l (a % 16) (b % 16) (c % 16) (d % 16) h))
+    (put a (b % 16 ∷ c % 16 ∷ d % 16 ∷ []) (put b (c % 16 ∷ d % 16 ∷ []) (put c (d % 16 ∷ []) (put d [] none))))
+
 pub mode-data-words : (f : Bool) (L D : ℕ) → Words (sizeOf 4) (modeData f L D)
 unfolding modeData
 mode-data-words false L D = let v = (L - 1) * 64 + (D - 1) in put (v / 16) (v % 16 ∷ []) (put v [] none)

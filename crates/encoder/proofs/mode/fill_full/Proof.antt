@@ -1,17 +1,15 @@
 -- Four words of 4 bits, and their check words.
 -- Assumes nothing.
 use borrow.Author.Needs.{needs}
-use mathlib.Core.Path.{_≡_, refl, subst, sym, ap, _∙_}
+use mathlib.Core.Path.{_≡_, refl, sym, ap, _∙_}
 use mathlib.Core.Bool.{true, false}
 use mathlib.Core.List.{List}
 use Prim.Native.Nat.{ℕ, _+_, _*_, _-_, _/_, _%_}
 use native.Mathlib.Omega.{arith}
 use lib.ListN.{length, take, set, length-set}
-use Rattle.finite_field.specs.Field.{sizeOf}
-use Rattle.reed_solomon.specs.Block.{Words}
 use Rattle.symbol.specs.Places.{modeRun}
 use Rattle.encoder.specs.ModeMessage.{modeData, modeChecks, modeWords}
-use Rattle.encoder.specs.ModeLaws.{stored-four, mode-data-words, mode-filled, length-mode-words}
+use Rattle.encoder.specs.ModeLaws.{stored-four, four-words, mode-filled, length-mode-words}
 use Rattle.encoder.proofs.mode.fill_full.Statement.{statement}
 use Rattle.encoder.proofs.mode.fill_full.Tie as tie
 
@@ -68,9 +66,8 @@ front-stored a = let v = value a in stored-four (a .args .words .now) (v / 4096 
 fill-check-words-requires : tie.Need-fill-check-words-requires
 fill-check-words-requires c κs =
     let a = c .before .before in
-    let n = length-stored a in
-    (refl, (omega (arith, n), (omega (arith, n),
-      subst (Words (sizeOf 4)) (sym (front-stored a)) (mode-data-words true (a .args .layers) (a .args .data-words)))))
+    (refl, (simp length-set (omega (arith, a .pre .4)), (simp length-set (omega (arith, a .pre .4)),
+      four-words (a .args .words .now) _ _ _ _ (omega (arith, a .pre .4)))))
 
 abbrev start : tie.After-slice-known2 → tie.Start
 start c = c .before .before .before .before .before
