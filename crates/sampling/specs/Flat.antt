@@ -1,7 +1,7 @@
 -- Marks for flat data words (document 01, "How a grid is read", step 3).
 -- Assumes nothing.
 use mathlib.Core.Path.{_≡_, sym, ap, _∙_}
-use mathlib.Core.Bool.{Bool, cond, _&&_, _||_}
+use mathlib.Core.Bool.{Bool, cond, _&&_}
 use mathlib.Core.List.{List}
 use Prim.Native.Nat.{ℕ, _-_, _^_, _≤_, _<_}
 use native.Mathlib.Omega.{arith}
@@ -10,11 +10,8 @@ use lib.Dec.{eqb, ltb}
 use lib.ListN.{length, getD}
 use lib.Seq.{ext-getD}
 use borrow.Author.Tests.{lt-ltb, le-ltb}
+use Rattle.stream.specs.Stuffing.{flat}
 use Rattle.list_laws.specs.Filled.{tabulate, filled, length-tabulate, getD-tabulate, length-filled, getD-filled, getD-unfilled}
-
--- "all 0s or all 1s"
-unfoldable pub flat : ℕ → ℕ → Bool
-flat size x = eqb x 0 || eqb x (2 ^ size - 1)
 
 -- "A data word (never a check word, and never a mode word) of all 0s or all 1s is marked too": the first `count` words are the data words
 unfoldable pub flatMarked : ℕ → ℕ → List ℕ → List ℕ → List ℕ

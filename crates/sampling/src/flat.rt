@@ -29,7 +29,7 @@ fn flat_mark(ones: u16, word: u16, mark: u8) -> u8
 
 // Marks those of the first `count` words, the data words.
 pub fn mark_flat(size: usize, count: usize, words: &[u16], marks: &mut [u8])
-    requires { ⌜ (size ≤ 12) × (count ≤ length (now words)) × (count ≤ length (now marks)) ⌝ }
+    requires { ⌜ (size ≤ 12) × (count ≤ length (now words)) × (length (now marks) ≡ length (now words)) ⌝ }
     ensures { λ _. ⌜ now (marks .exit) ≡ flatMarked size count (now (words .entry)) (now (marks .entry)) ⌝ }
 {
     let ones = ones_of(size);

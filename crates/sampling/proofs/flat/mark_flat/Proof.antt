@@ -9,7 +9,8 @@ use native.Mathlib.Omega.{arith}
 use lib.Dec.{eqb}
 use lib.ListN.{length, getD, length-set}
 use Rattle.list_laws.specs.Filled.{filled, filled-none, filled-step, getD-unfilled}
-use Rattle.sampling.specs.Flat.{flat, flatMark, flat-filled}
+use Rattle.stream.specs.Stuffing.{flat}
+use Rattle.sampling.specs.Flat.{flatMark, flat-filled}
 use Rattle.sampling.proofs.flat.mark_flat.Statement.{statement}
 use Rattle.sampling.proofs.flat.mark_flat.Tie as tie
 
@@ -75,7 +76,7 @@ returns c =
     let e : l .w ≡ a .count = omega arith in
     l .inv .2
     ∙ ap (λ n. filled (flatMark (a .size) (a .words .now) (a .marks .now)) n (a .marks .now)) e
-    ∙ flat-filled (a .size) (a .count) (a .words .now) (a .marks .now) (s .pre .2)
+    ∙ flat-filled (a .size) (a .count) (a .words .now) (a .marks .now) (omega (arith, s .pre))
 
 pub mark-flat-spec : {M : Type 1} → statement M
 mark-flat-spec =
