@@ -1,7 +1,10 @@
 pub mod Stages
+pub mod Said
+pub mod Counts
+pub mod MessageLength
 pub mod Decode
+pub mod Correcting
+pub mod LawfulWords
 pub mod DamagedTag
 pub mod ReadsBack
 pub mod Undamaged
-pub mod Correcting
-pub mod LawfulWords

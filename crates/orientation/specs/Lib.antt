@@ -1,4 +1,5 @@
 pub mod Position
+pub mod Counting
 pub mod PositionLaws
 pub mod Family
 pub mod Sides

@@ -2,7 +2,7 @@
 -- Assumes nothing.
 use mathlib.Core.Bool.{Bool, _&&_, _||_}
 use mathlib.Core.List.{List}
-use mathlib.Core.Option.{Option}
+use mathlib.Core.Option.{Option, none, some}
 use Prim.Native.Nat.{ℕ}
 use lib.Dec.{eqb, ltb, leb}
 use lib.ListN.{getD}
@@ -23,3 +23,8 @@ single s p = leb 9 (s p) && all 8 (λ q. eqb q p || ltb (s q) (s p))
 -- none is number 14, "no single best position with 9 matches"
 unfoldable pub position : Bool → ℕ → List ℕ → Option ℕ
 position f n g = firstFrom (single (matches f n g)) 0 8
+
+-- the position as code names it: 0 to 7, or 8 for none
+abbrev pub positionNumber : Option ℕ → ℕ
+positionNumber none = 8
+positionNumber (some p) = p

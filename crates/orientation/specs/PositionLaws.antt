@@ -9,11 +9,11 @@ use mathlib.Core.Option.{Option, none, some}
 use Prim.Native.Nat.{ℕ, zero, suc, _+_, _*_, _-_, _/_, _%_, _≤_, _<_}
 use native.Mathlib.Omega.{arith}
 use native.Mathlib.Decide.{ℕ-discrete}
-use lib.Dec.{T, eqb, ltb, leb, eqb→eq, ltb→lt, leb→le, le→leb, lt→ltb}
+use lib.Dec.{T, eqb, ltb, leb, eqb→eq, ltb→lt, leb→le}
 use lib.ListN.{getD, replicate, length-replicate}
-use borrow.Author.Tests.{eq-eqb, ne-eqb}
-use Rattle.list_laws.specs.Tests.{both, both-parts, decided, true-of, holds}
-use Rattle.list_laws.specs.Range.{count, count-same, count-sum, count-not, all, all-at, all-of}
+use borrow.Author.Tests.{eq-eqb, ne-eqb, le-leb}
+use Rattle.list_laws.specs.Tests.{both-parts, decided, true-of, holds}
+use Rattle.list_laws.specs.Range.{count, count-same, count-sum, count-not, all, all-at}
 use Rattle.list_laws.specs.Search.{first-found, first-only}
 use Rattle.symbol.specs.Shapes.{side, core, Shaped}
 use Rattle.symbol.specs.Places.{Cell, index, turned, corePlace, orientationCell, orientationPlace}
@@ -21,6 +21,7 @@ use Rattle.symbol.specs.CorePlaces.{orientation-on-ring, orientation-lt, core-r
 use Rattle.symbol.specs.Drawing.{orientationBits, area, symbol, drawn-orientation}
 use Rattle.symbol.specs.Positions.{placeIn, placed, placed-at, back}
 use Rattle.orientation.specs.Position.{matches, single, position}
+use Rattle.orientation.specs.Counting.{single-kept}
 
 -- What number 14 means
 
@@ -32,12 +33,7 @@ pub record Best (s : ℕ → ℕ) (p : ℕ) : Type 0 where
 
 module _ (s : ℕ → ℕ) (p : ℕ) where
   best-single : Best s p → T (single s p)
-  unfolding single
-  best-single b = both (leb 9 (s p)) _ (le→leb 9 (s p) (b .enough)) (all-of 8 _ (λ q h. less q h (ℕ-discrete q p)))
-    where
-      less : (q : ℕ) → q < 8 → Dec (q ≡ p) → T (eqb q p || ltb (s q) (s p))
-      less q h (yes e) = rw (eq-eqb q p e) tt
-      less q h (no d) = rw (ne-eqb q p d) (lt→ltb (s q) (s p) (b .most q h d))
+  best-single b = holds (sym (single-kept s p (b .most)) ∙ le-leb 9 (s p) (b .enough))
 
   single-best : p < 8 → T (single s p) → Best s p
   unfolding single

@@ -3,7 +3,7 @@
 use mathlib.Core.Path.{_≡_, refl, ap₂}
 use mathlib.Core.Bool.{Bool, true, false, cond}
 use mathlib.Core.Option.{Option, none, some}
-use Prim.Native.Nat.{ℕ, _-_, _≤_, _<_}
+use Prim.Native.Nat.{ℕ, _-_, _%_, _≤_, _<_}
 use native.Mathlib.Omega.{arith}
 use lib.Dec.{eqb, ltb}
 use borrow.Author.Tests.{eqb-true, eq-eqb, ltb-true, ltb-false}
@@ -19,7 +19,7 @@ hasSide n s = eqb (side (isFull s) (layers s)) n
 unfoldable pub isSide : ℕ → Bool
 isSide n = found (firstFrom (hasSide n) 1 36)
 
-shaped-at : (s : ℕ) → 1 ≤ s → s < 37 → Shaped (isFull s) (layers s)
+pub shaped-at : (s : ℕ) → 1 ≤ s → s < 37 → Shaped (isFull s) (layers s)
 unfolding isFull layers
 shaped-at s h l = go (ltb 4 s) refl
   where
@@ -63,3 +63,11 @@ side-of-shape f L s =
 
 pub is-side : {n : ℕ} → OfSide n → isSide n ≡ true
 is-side x = rw (x .side-is) at (side-of-shape (x .full) (x .layers) (x .shaped))
+
+-- from C1's to F32's, and odd
+pub side-range : (n : ℕ) → isSide n ≡ true → (15 ≤ n) × (n ≤ 151) × (n % 2 ≡ 1)
+side-range n t = let x = shape-of-side n t in rw (x .side-is) at (go (x .full) (x .layers) (x .shaped))
+  where
+    go : (f : Bool) (L : ℕ) → Shaped f L → (15 ≤ side f L) × (side f L ≤ 151) × (side f L % 2 ≡ 1)
+    go false L s = unfold side mostLayers in omega (arith, s .some, s .most)
+    go true L s = unfold side mostLayers in omega (arith, s .some, s .most)
