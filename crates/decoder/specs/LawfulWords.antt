@@ -3,6 +3,7 @@
 use mathlib.Core.Path.{_≡_, refl, sym, ap, _∙_, subst}
 use mathlib.Core.Bool.{Bool, true, false, cond, _&&_}
 use mathlib.Core.List.{List}
+use mathlib.Core.Option.{some}
 use Prim.Native.Nat.{ℕ, zero, suc, _+_, _*_, _-_, _^_, _≤_, _<_}
 use native.Mathlib.Omega.{arith}
 use native.Mathlib.Decide.{decLt}
@@ -10,6 +11,9 @@ use lib.Dec.{eqb, ltb}
 use lib.ListN.{length, getD, List·getD-eq-default}
 use lib.Pow.{pow-pos}
 use Rattle.list_laws.specs.Filled.{tabulate, length-tabulate, getD-tabulate}
+use Rattle.finite_field.specs.Field.{sizeOf}
+use Rattle.reed_solomon.specs.Nearest.{nearest}
+use Rattle.reed_solomon.specs.NearestLaws.{some-near}
 use Rattle.stream.specs.Stuffing.{flat}
 use Rattle.symbol.specs.Shapes.{wordSize, words, Shaped}
 use Rattle.symbol.specs.Places.{modeRun}
@@ -19,6 +23,7 @@ use Rattle.sampling.specs.Sampled.{modeModuleOf, blockModuleOf, modeWordsOf, mo
 use Rattle.sampling.specs.Flat.{flatMarked}
 use Rattle.encoder.specs.ModeMessage.{modeChecks}
 use Rattle.encoder.specs.Fitting.{size-is}
+use Rattle.decoder.specs.Said.{Nibbles}
 use Rattle.decoder.specs.Correcting.{Lawful}
 
 -- what holds of every entry of a table, and of 0, holds of every entry, past the end too
@@ -78,7 +83,7 @@ mode-lawful f n u =
 pub block-lawful : (f : Bool) (L D : ℕ) (u : List ℕ) → Shaped f L → 1 ≤ D → D + 3 ≤ words f L
     → Lawful (wordSize L) (words f L - D) (blockWordsOf f L u) (flatMarked (wordSize L) D (blockWordsOf f L u) (blockMarksOf f L u))
 unfolding blockWordsOf blockMarksOf flatMarked
-block-lawful f L D u s some checks =
+block-lawful f L D u s least checks =
     record {
       size = size-is L;
       same = length-tabulate _ _ ∙ length-tabulate _ (words f L) ∙ sym lw;
@@ -101,3 +106,7 @@ block-lawful f L D u s some checks =
     marked : (w : ℕ) (b : Bool) → cond b 1 (getD (tabulate mark-at (words f L)) w 0) ≤ 1
     marked w true = omega arith
     marked w false = table-all (λ k. k ≤ 1) mark-at (words f L) (omega arith) (λ w. unread-most (wordSize L) (blockModuleOf f L u w)) w
+
+-- corrected mode words are of 4 bits
+pub found-nibbles : (K : ℕ) (received marks b : List ℕ) → nearest (sizeOf 4) K K received marks ≡ some b → Nibbles b
+found-nibbles K received marks b e i h = some-near (sizeOf 4) K K received marks e .valid .words i

@@ -3,8 +3,13 @@ pub mod Said
 pub mod Counts
 pub mod MessageLength
 pub mod Decode
+pub mod Saying
 pub mod Correcting
+pub mod Upright
+pub mod Rooms
+pub mod GridLaws
 pub mod LawfulWords
+pub mod UprightLaws
 pub mod DamagedTag
 pub mod ReadsBack
 pub mod Undamaged

@@ -1,0 +1,130 @@
+-- A message that has room is written, and the counts are those of what was received.
+-- Assumes nothing.
+use borrow.Author.Needs.{needs}
+use mathlib.Core.Path.{_≡_, refl, sym, ap, ap₂, _∙_, subst}
+use mathlib.Core.List.{List, _++_}
+use Prim.Native.Nat.{ℕ, _≤_, _<_}
+use native.Mathlib.Omega.{arith}
+use lib.ListN.{length, take, drop}
+use lib.Seq.{length-take-le}
+use Rattle.stream.specs.Items as items
+use Rattle.stream_reader.specs.Written.{Room, written}
+use Rattle.symbol.specs.Shapes.{wordSize, numberOf, word-size-range}
+use Rattle.symbol.specs.DataPlaces.{most-layers}
+use Rattle.decoder.specs.declared.Decoded.{Decoded}
+use Rattle.decoder.specs.Saying.{Says}
+use Rattle.decoder.specs.MessageLength.{message-most}
+use Rattle.decoder.specs.Upright.{deliver-short, deliver-made}
+use Rattle.decoder.proofs.delivering.finish.Statement.{statement}
+use Rattle.decoder.proofs.delivering.finish.Tie as tie
+
+-- the data words, and that they say a message
+abbrev words : tie.Start → List ℕ
+words a = take (a .args .data-words) (a .args .found .now)
+
+abbrev says : (a : tie.Start) → Says (items.judge (wordSize (a .args .layers)) (words a)) (a .args .bytes)
+says a = a .pre .1 .1 .1
+
+length-words : (a : tie.Start) → length (words a) ≡ a .args .data-words
+length-words a = length-take-le (a .args .data-words) (a .args .found .now) (a .pre .1 .0 .1)
+
+refused-requires : tie.Need-refused-requires
+refused-requires c κs = search needs
+
+returns : tie.Need-returns
+returns c =
+    let a = c .before .before .before .before .before .before in
+    let e =
+        deliver-short (a .args .message .now) (a .args .full) (a .args .layers) (a .args .position) (a .args .received .now) (a .args .unread .now)
+        (a .args .found .now) (says a) (c .before .if1 .taken) in
+    (c .refused .ensures ∙ sym (ap (λ r. r .answer) e), sym (ap (λ r. r .message) e))
+
+count-unread-requires : tie.Need-count-unread-requires
+count-unread-requires c κs = search needs
+
+count-wrong-requires : tie.Need-count-wrong-requires
+count-wrong-requires c κs = search needs
+
+word-size-of-requires : tie.Need-word-size-of-requires
+word-size-of-requires c κs = search needs
+
+slice-aggregate-write-message : tie.Need-slice-aggregate-write-message
+slice-aggregate-write-message c = sym (length-words (c .before .before .before .before .before .before .before .before .before))
+
+write-message-requires : tie.Need-write-message-requires
+write-message-requires c κs =
+    let w = c .before .before in
+    let a = w .before .before .before .before .before .before .before .before in
+    let e = w .word-size-of .ensures in
+    let r = word-size-range (a .args .layers) in
+    (omega (arith, e, r),
+      (omega (arith, e, r),
+      (omega (arith, length-words a, a .pre .1 .0),
+      subst (λ q. Room q (a .args .message .now)) (sym (ap (λ b. items.judge b (words a)) e ∙ says a .is))
+      (omega (arith, says a .size, w .before .before .before .if1 .left)))))
+
+cast-t20 : tie.Need-cast-t20
+cast-t20 c =
+    let a = c .before .before .before .before .before .before .before .before .before .before .before .before .before in
+    let r = word-size-range (a .args .layers) in
+    omega (
+      arith,
+      says a .size,
+      message-most (wordSize (a .args .layers)) (words a) (says a .text) (says a .is) (omega (arith, length-words a, a .pre .1 .0)) (r .1),
+    )
+
+number-of-requires : tie.Need-number-of-requires
+number-of-requires c κs =
+    let a = c .before .before .before .before .before .before .before .before .before .before .before .before .before in
+    most-layers (a .args .full) (a .args .layers) (a .pre .0)
+
+cast-t22 : tie.Need-cast-t22
+cast-t22 c = search needs
+
+same-length : tie.Need-same-length
+same-length c = search needs
+
+returns-2 : tie.Need-returns-2
+returns-2 c =
+    let drawn = c .before .before .before in
+    let counted = c .before .before .before .before .before .before .before in
+    let a = counted .before .before .before .before .before .before .before in
+    let e =
+        deliver-made (a .args .message .now) (a .args .full) (a .args .layers) (a .args .position) (a .args .received .now) (a .args .unread .now)
+        (a .args .found .now) (says a) (counted .before .before .if1 .left) in
+    (ap₂ (λ k t. fields k t (counted .before .count-unread .result) (counted .count-wrong .result)) (sym (says a .size)) (c .number-of .ensures)
+      ∙ ap₂ (fields (length (says a .text)) (numberOf (a .args .full) (a .args .layers))) (counted .before .count-unread .ensures)
+      (counted .count-wrong .ensures)
+      ∙ sym (ap (λ r. r .answer) e),
+      drawn .write-message .ensures
+      ∙ ap (λ q. written q (a .args .message .now))
+      (ap (λ b. items.judge b (words a)) (c .before .before .before .before .before .before .word-size-of .ensures) ∙ says a .is)
+      ∙ sym (ap (λ r. r .message) e))
+  where
+    fields : ℕ → ℕ → ℕ → ℕ → Decoded
+    fields k t x y =
+        record {
+          number = 0;
+          length = k;
+          shape = t;
+          position = c .before .before .before .before .before .before .before .before .before .before .before .before .before .before .args .position;
+          unread = x;
+          wrong = y;
+        }
+
+pub finish-spec : {M : Type 1} → statement M
+finish-spec =
+    tie.close
+    (tie.spec
+    refused-requires
+    returns
+    count-unread-requires
+    count-wrong-requires
+    word-size-of-requires
+    slice-aggregate-write-message
+    write-message-requires
+    cast-t20
+    number-of-requires
+    cast-t22
+    same-length
+    returns-2)
