@@ -1,4 +1,5 @@
 pub mod Stages
+pub mod Rooms
 pub mod Said
 pub mod Counts
 pub mod MessageLength
@@ -6,7 +7,6 @@ pub mod Decode
 pub mod Saying
 pub mod Correcting
 pub mod Upright
-pub mod Rooms
 pub mod GridLaws
 pub mod LawfulWords
 pub mod UprightLaws

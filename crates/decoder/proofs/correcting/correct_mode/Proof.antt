@@ -2,20 +2,14 @@
 -- Assumes nothing.
 use borrow.Author.Needs.{needs}
 use mathlib.Core.Path.{_≡_, sym, _∙_}
-use mathlib.Core.Bool.{Bool, true, false}
 use mathlib.Core.List.{List}
 use Prim.Native.Nat.{ℕ, _≤_}
 use native.Mathlib.Omega.{arith}
 use lib.ListN.{length, take}
 use lib.Seq.{length-take-le}
-use Rattle.symbol.specs.Places.{modeRun}
+use Rattle.decoder.specs.Rooms.{run-most}
 use Rattle.decoder.proofs.correcting.correct_mode.Statement.{statement}
 use Rattle.decoder.proofs.correcting.correct_mode.Tie as tie
-
-run-most : (f : Bool) → modeRun f ≤ 10
-unfolding modeRun
-run-most false = omega arith
-run-most true = omega arith
 
 short : (c : tie.After-mode-run-of) → c .mode-run-of .result ≤ 10
 short c = omega (arith, c .mode-run-of .ensures, run-most (c .before .before .before .args .full))

@@ -2,13 +2,13 @@
 -- Assumes nothing.
 use borrow.Author.Needs.{needs}
 use mathlib.Core.Path.{_≡_, sym, ap, _∙_}
-use mathlib.Core.Bool.{Bool, true, false}
+use mathlib.Core.Bool.{true}
 use Prim.Native.Nat.{ℕ, _*_, _<_, _≤_}
-use native.Mathlib.Nat.{le-trans, mul-le-mul}
 use native.Mathlib.Omega.{arith}
 use lib.ListN.{length}
 use Rattle.orientation.specs.Sides.{isSide, side-range}
 use Rattle.decoder.specs.Stages.{modulesRead}
+use Rattle.decoder.specs.Rooms.{area-most}
 use Rattle.decoder.specs.GridLaws.{side-refused, length-refused, module-refused, grid-taken}
 use Rattle.decoder.proofs.grid.decode_in.Statement.{statement}
 use Rattle.decoder.proofs.grid.decode_in.Tie as tie
@@ -19,9 +19,6 @@ start c = c .before .before .before .before .before .before .before .before .bef
 -- a side that is a shape's
 sided : (c : tie.Then1) → isSide (start (c .before) .args .n) ≡ true
 sided c = sym (c .before .is-side .ensures) ∙ c .if1 .taken
-
-area-most : (n : ℕ) → n ≤ 151 → n * n ≤ 22801
-area-most n h = le-trans (mul-le-mul {n₁ = n} {m₁ = n} {n₂ = 151} {m₂ = 151} h h) (omega arith)
 
 is-side-requires : tie.Need-is-side-requires
 is-side-requires c κs = search needs

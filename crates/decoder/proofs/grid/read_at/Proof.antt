@@ -2,27 +2,17 @@
 -- Assumes nothing.
 use borrow.Author.Needs.{needs}
 use mathlib.Core.Path.{_≡_, sym, ap, _∙_}
-use mathlib.Core.Bool.{Bool, true, false}
 use mathlib.Core.List.{List}
 use Prim.Native.Nat.{ℕ, _*_, _≤_}
-use native.Mathlib.Nat.{le-trans, mul-le-mul}
 use native.Mathlib.Omega.{arith}
 use lib.ListN.{length, take}
 use lib.Seq.{length-take-le}
 use Rattle.list_laws.specs.Writes.{length-writes}
-use Rattle.symbol.specs.Places.{modeRun}
 use Rattle.symbol.specs.GridWords.{moduleAt}
+use Rattle.decoder.specs.Rooms.{run-most, area-most}
 use Rattle.decoder.specs.UprightLaws.{said-same}
 use Rattle.decoder.proofs.grid.read_at.Statement.{statement}
 use Rattle.decoder.proofs.grid.read_at.Tie as tie
-
-run-most : (f : Bool) → modeRun f ≤ 10
-unfolding modeRun
-run-most false = omega arith
-run-most true = omega arith
-
-area-most : (n : ℕ) → n ≤ 151 → n * n ≤ 22801
-area-most n h = le-trans (mul-le-mul {n₁ = n} {m₁ = n} {n₂ = 151} {m₂ = 151} h h) (omega arith)
 
 abbrev start : tie.After-turn-upright → tie.Start
 start c = c .before .before .before .before .before .before .before .before .before .before
