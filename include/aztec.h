@@ -39,6 +39,26 @@ struct aztec_encoded {
 struct aztec_encoded aztec_encode(const uint8_t *message, size_t message_length, uint32_t percent,
                                   uint8_t *grid, size_t grid_length);
 
+/* What the decoder answers. A number other than 0 comes with zeros in the other fields. */
+struct aztec_decoded {
+  uint32_t number;
+  uint32_t length;      /* bytes of the message; 0 is possible */
+  uint32_t shape;       /* as in aztec_encoded; full with 1 to 3 layers, 5 to 7, is read too */
+  uint32_t position;    /* clockwise quarter turns, 0 to 3, plus 4 if the symbol was mirrored left to right before them */
+  uint32_t unread;      /* words of the block with an unread module */
+  uint32_t wrong;       /* words of the block that were fully read and differ from the block found */
+};
+
+/* The decoder. grid has one byte a module, row by row from the top: 0 light, 1 dark, 2 unread.
+   0: the first length bytes of message are the message, and the rest is as it was.
+   11: side is no shape's. 12: grid_length is not side * side. 13: a module above 2. 14: no single best position with 9 of the 12
+   orientation modules. 15: mode message beyond correction. 16: it names a shape of another side, or leaves fewer than 3 check words.
+   17: block beyond correction. 18: a corrected data word of all 0s or all 1s. 19: FLG, or a shift before a code that is no character.
+   20: an item cut short. 21: message is shorter than the message; 8192 is enough for every symbol. A lower number comes first, but 19
+   and 20 go by the first item at fault, and a number other than 0 leaves message as it was. */
+struct aztec_decoded aztec_decode(const uint8_t *grid, size_t grid_length, uint32_t side,
+                                  uint8_t *message, size_t message_length);
+
 #ifdef __cplusplus
 }
 #endif

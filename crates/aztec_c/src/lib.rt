@@ -2,7 +2,8 @@
 ghost use mathlib.Core.Path.{_≡_};
 ghost use Rattle.reed_solomon.specs.Correct.{correctOf};
 ghost use Rattle.encoder.specs.Encode.{encodeOf};
-ghost use Rattle.aztec_c.specs.Fields.{fieldsOf};
+ghost use Rattle.decoder.specs.Decode.{decodeOf};
+ghost use Rattle.aztec_c.specs.Fields.{encodedFields, decodedFields};
 
 #[no_mangle]
 pub extern "C" fn aztec_correct(
@@ -30,7 +31,7 @@ pub struct AztecEncoded {
 
 #[no_mangle]
 pub extern "C" fn aztec_encode(message: &[u8], percent: u32, grid: &mut [u8]) -> AztecEncoded
-    ensures { λ r. ⌜ r ≡ fieldsOf (encodeOf (now (message .entry)) percent (now (grid .entry)) .answer) ⌝ }
+    ensures { λ r. ⌜ r ≡ encodedFields (encodeOf (now (message .entry)) percent (now (grid .entry)) .answer) ⌝ }
     ensures { λ r. ⌜ now (grid .exit) ≡ encodeOf (now (message .entry)) percent (now (grid .entry)) .grid ⌝ }
 {
     let answer = encoder::encode(message, percent, grid);
@@ -40,5 +41,32 @@ pub extern "C" fn aztec_encode(message: &[u8], percent: u32, grid: &mut [u8]) ->
         side: answer.side,
         data_words: answer.data_words,
         check_words: answer.check_words,
+    }
+}
+
+// The fields of decoder::Decoded, laid out as C lays them out.
+#[repr(C)]
+pub struct AztecDecoded {
+    pub number: u32,
+    pub length: u32,
+    pub shape: u32,
+    pub position: u32,
+    pub unread: u32,
+    pub wrong: u32,
+}
+
+#[no_mangle]
+pub extern "C" fn aztec_decode(grid: &[u8], side: u32, message: &mut [u8]) -> AztecDecoded
+    ensures { λ r. ⌜ r ≡ decodedFields (decodeOf (now (grid .entry)) side (now (message .entry)) .answer) ⌝ }
+    ensures { λ r. ⌜ now (message .exit) ≡ decodeOf (now (grid .entry)) side (now (message .entry)) .message ⌝ }
+{
+    let answer = decoder::decode(grid, side, message);
+    AztecDecoded {
+        number: answer.number,
+        length: answer.length,
+        shape: answer.shape,
+        position: answer.position,
+        unread: answer.unread,
+        wrong: answer.wrong,
     }
 }

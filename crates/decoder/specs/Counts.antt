@@ -19,11 +19,12 @@ isUnread marks w = eqb (getD marks w 0) 1
 abbrev pub isWrong : List ℕ → List ℕ → List ℕ → ℕ → Bool
 isWrong received marks found w = not (eqb (getD marks w 0) 1) && not (eqb (getD received w 0) (getD found w 0))
 
-unfoldable pub unreadOf : List ℕ → ℕ
-unreadOf marks = count (length marks) (isUnread marks)
+-- among the first words
+unfoldable pub unreadOf : ℕ → List ℕ → ℕ
+unreadOf n marks = count n (isUnread marks)
 
-unfoldable pub wrongOf : List ℕ → List ℕ → List ℕ → ℕ
-wrongOf received marks found = count (length received) (isWrong received marks found)
+unfoldable pub wrongOf : ℕ → List ℕ → List ℕ → List ℕ → ℕ
+wrongOf n received marks found = count n (isWrong received marks found)
 
 -- the words of the block and their marks, as sampled
 module _ (f : Bool) (L p : ℕ) (g : List ℕ) where
@@ -31,7 +32,7 @@ module _ (f : Bool) (L p : ℕ) (g : List ℕ) where
   markAt w = unread (wordSize L) (blockModule f L p g w)
 
   pub unread-of : {marks : List ℕ} → marks ≡ tabulate (λ w. unread (wordSize L) (blockModule f L p g w)) (words f L)
-      → unreadOf marks ≡ unreadWords f L p g
+      → unreadOf (length marks) marks ≡ unreadWords f L p g
   unfolding unreadOf unreadWords
   unread-of e =
       ap (λ marks. count (length marks) (isUnread marks)) e
@@ -40,7 +41,7 @@ module _ (f : Bool) (L p : ℕ) (g : List ℕ) where
 
   pub wrong-of : {received marks : List ℕ} → received ≡ tabulate (blockWord f L p g) (words f L)
       → marks ≡ tabulate (λ w. unread (wordSize L) (blockModule f L p g w)) (words f L)
-      → (found : List ℕ) → wrongOf received marks found ≡ wrongWords f L p g found
+      → (found : List ℕ) → wrongOf (length received) received marks found ≡ wrongWords f L p g found
   unfolding wrongOf wrongWords
   wrong-of r e found =
       ap₂ (λ received marks. count (length received) (isWrong received marks found)) r e

@@ -37,8 +37,8 @@ module _ (buffer : List ℕ) where
             length = length text;
             shape = numberOf f L;
             position = p;
-            unread = unreadOf marks;
-            wrong = wrongOf received marks found;
+            unread = unreadOf (length marks) marks;
+            wrong = wrongOf (length received) received marks found;
           };
         message = text ++ drop (length text) buffer;
       }

@@ -59,8 +59,9 @@ fn finish(
     if message.len() < bytes {
         return refused(21);
     }
-    let unread_words = counts::count_unread(unread);
-    let wrong_words = counts::count_wrong(received, unread, found);
+    let words = received.len();
+    let unread_words = counts::count_unread(words, unread);
+    let wrong_words = counts::count_wrong(words, received, unread, found);
     let size = shapes::word_size_of(layers);
     stream_message::write_message(&found[..data_words], size, message);
     Decoded {

@@ -13,10 +13,10 @@ use Rattle.decoder.proofs.counts.count_unread.Statement.{statement}
 use Rattle.decoder.proofs.counts.count_unread.Tie as tie
 
 abbrev Inv-loop : tie.InvT-loop
-Inv-loop marks unread₀ w₀ unread w = (w ≤ length marks) × (unread ≡ count w (isUnread marks))
+Inv-loop words marks unread₀ w₀ unread w = (w ≤ words) × (unread ≡ count w (isUnread marks))
 
 abbrev μ-loop : tie.MeasureT-loop
-μ-loop marks unread₀ w₀ unread w = length marks - w
+μ-loop words marks unread₀ w₀ unread w = words - w
 
 loop-holds : tie.Need-loop-holds Inv-loop μ-loop
 loop-holds c = (search needs, sym (count-none _))
@@ -49,9 +49,9 @@ loop-again c =
 returns : tie.Need-returns Inv-loop μ-loop
 unfolding unreadOf
 returns c =
-    let marks = c .before .before .args .marks .now in
-    let end : c .before .loop .w ≡ length marks = omega arith in
-    c .before .loop .inv .1 ∙ ap (λ n. count n (isUnread marks)) end
+    let a = c .before .before .args in
+    let end : c .before .loop .w ≡ a .words = omega arith in
+    c .before .loop .inv .1 ∙ ap (λ n. count n (isUnread (a .marks .now))) end
 
 pub count-unread-spec : {M : Type 1} → statement M
 count-unread-spec =

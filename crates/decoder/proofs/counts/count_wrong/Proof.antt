@@ -18,10 +18,10 @@ abbrev neither : Bool → Bool → Bool
 neither a b = not a && not b
 
 abbrev Inv-loop : tie.InvT-loop
-Inv-loop received marks found wrong₀ w₀ wrong w = (w ≤ length received) × (wrong ≡ count w (isWrong received marks found))
+Inv-loop words received marks found wrong₀ w₀ wrong w = (w ≤ words) × (wrong ≡ count w (isWrong received marks found))
 
 abbrev μ-loop : tie.MeasureT-loop
-μ-loop received marks found wrong₀ w₀ wrong w = length received - w
+μ-loop words received marks found wrong₀ w₀ wrong w = words - w
 
 loop-holds : tie.Need-loop-holds Inv-loop μ-loop
 loop-holds c = (search needs, sym (count-none _))
@@ -74,7 +74,7 @@ returns : tie.Need-returns Inv-loop μ-loop
 unfolding wrongOf
 returns c =
     let a = c .before .before .args in
-    let end : c .before .loop .w ≡ length (a .received .now) = omega arith in
+    let end : c .before .loop .w ≡ a .words = omega arith in
     c .before .loop .inv .1 ∙ ap (λ n. count n (isWrong (a .received .now) (a .marks .now) (a .found .now))) end
 
 pub count-wrong-spec : {M : Type 1} → statement M

@@ -12,6 +12,7 @@ use Rattle.stream_reader.specs.Written.{Room, written}
 use Rattle.symbol.specs.Shapes.{wordSize, numberOf, word-size-range}
 use Rattle.symbol.specs.DataPlaces.{most-layers}
 use Rattle.decoder.specs.declared.Decoded.{Decoded}
+use Rattle.decoder.specs.Counts.{unreadOf}
 use Rattle.decoder.specs.Saying.{Says}
 use Rattle.decoder.specs.MessageLength.{message-most}
 use Rattle.decoder.specs.Upright.{deliver-short, deliver-made}
@@ -63,8 +64,8 @@ write-message-requires c κs =
       subst (λ q. Room q (a .args .message .now)) (sym (ap (λ b. items.judge b (words a)) e ∙ says a .is))
       (omega (arith, says a .size, w .before .before .before .if1 .left)))))
 
-cast-t20 : tie.Need-cast-t20
-cast-t20 c =
+cast-t21 : tie.Need-cast-t21
+cast-t21 c =
     let a = c .before .before .before .before .before .before .before .before .before .before .before .before .before in
     let r = word-size-range (a .args .layers) in
     omega (
@@ -78,8 +79,8 @@ number-of-requires c κs =
     let a = c .before .before .before .before .before .before .before .before .before .before .before .before .before in
     most-layers (a .args .full) (a .args .layers) (a .pre .0)
 
-cast-t22 : tie.Need-cast-t22
-cast-t22 c = search needs
+cast-t23 : tie.Need-cast-t23
+cast-t23 c = search needs
 
 same-length : tie.Need-same-length
 same-length c = search needs
@@ -89,11 +90,12 @@ returns-2 c =
     let drawn = c .before .before .before in
     let counted = c .before .before .before .before .before .before .before in
     let a = counted .before .before .before .before .before .before .before in
+    let sizes = a .pre .1 .1 .0 in
     let e =
         deliver-made (a .args .message .now) (a .args .full) (a .args .layers) (a .args .position) (a .args .received .now) (a .args .unread .now)
         (a .args .found .now) (says a) (counted .before .before .if1 .left) in
     (ap₂ (λ k t. fields k t (counted .before .count-unread .result) (counted .count-wrong .result)) (sym (says a .size)) (c .number-of .ensures)
-      ∙ ap₂ (fields (length (says a .text)) (numberOf (a .args .full) (a .args .layers))) (counted .before .count-unread .ensures)
+      ∙ ap₂ (fields (length (says a .text)) (numberOf (a .args .full) (a .args .layers))) (counted .before .count-unread .ensures ∙ ap (λ n. unreadOf n (a .args .unread .now)) (sizes .0 ∙ sym (sizes .1)))
       (counted .count-wrong .ensures)
       ∙ sym (ap (λ r. r .answer) e),
       drawn .write-message .ensures
@@ -123,8 +125,8 @@ finish-spec =
     word-size-of-requires
     slice-aggregate-write-message
     write-message-requires
-    cast-t20
+    cast-t21
     number-of-requires
-    cast-t22
+    cast-t23
     same-length
     returns-2)
