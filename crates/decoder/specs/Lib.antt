@@ -10,6 +10,3 @@ pub mod Upright
 pub mod GridLaws
 pub mod LawfulWords
 pub mod UprightLaws
-pub mod DamagedTag
-pub mod ReadsBack
-pub mod Undamaged

@@ -21,10 +21,10 @@ use Rattle.encoder.specs.Plan.{planOf}
 use Rattle.encoder.specs.ModeMessage.{modeChecks, modeWords}
 use Rattle.encoder.specs.Encode.{block, drawnMessage, encodeOf}
 use Rattle.encoder.specs.EncodeLaws.{encode-made, Answered, answered}
 use Rattle.decoder.specs.declared.Decoded.{Decoded}
 use Rattle.decoder.specs.Stages.{modeWordsIn, modeMarksIn, blockWordsIn, blockMarksIn, unreadWords, wrongWords}
 use Rattle.decoder.specs.Decode.{Result, decodeOf}
-use Rattle.decoder.specs.DamagedTag.{Within, tag-read}
+use Rattle.reading_back.specs.DamagedTag.{Within, tag-read}
 
 module _ (message : List ℕ) (percent : ℕ) where
   -- the shape that the encoder takes: family, layers, side, D and K

@@ -31,10 +31,10 @@ use Rattle.encoder.specs.ModeLaws.{mode-valid}
 use Rattle.encoder.specs.Encode.{block, encodeOf}
 use Rattle.encoder.specs.EncodeLaws.{Answered}
 use Rattle.encoder.specs.Fitting.{Fitting, size-is, block-valid}
 use Rattle.decoder.specs.Stages.{modeWordsIn, modeMarksIn, blockMark, blockWordsIn, blockMarksIn, unreadWords, wrongWords}
 use Rattle.decoder.specs.Decode.{decodeOf}
-use Rattle.decoder.specs.DamagedTag.{Within}
-use Rattle.decoder.specs.ReadsBack.{full, L, n, D, K, madeTag, spoilt, Shows, readBack, known, made-symbol, reads-back}
+use Rattle.reading_back.specs.DamagedTag.{Within}
+use Rattle.reading_back.specs.ReadsBack.{full, L, n, D, K, madeTag, spoilt, Shows, readBack, known, made-symbol, reads-back}
 
 -- nothing passes: none is counted
 pub count-zero : (n : ℕ) (t : ℕ → Bool) → ((i : ℕ) → i < n → t i ≡ false) → count n t ≡ 0

@@ -1,0 +1,3 @@
+pub mod DamagedTag
+pub mod ReadsBack
+pub mod Undamaged
