@@ -48,9 +48,15 @@ module _ (B K : ℕ) (received marks : List ℕ) (l : Lawful B K received marks)
   pub correct-lawful : (buffer : List ℕ) → length buffer ≡ length received
       → correctOf B K received marks buffer ≡ answer (nearest (sizeOf B) K K received marks) buffer
   correct-lawful buffer e =
-      rw (eq-eqb (length marks) (length received) (l .same), eq-eqb (length buffer) (length received) e, eq-eqb (bits (sizeOf B)) B (l .size),
+      rw (
+        eq-eqb (length marks) (length received) (l .same),
+        eq-eqb (length buffer) (length received) e,
+        eq-eqb (bits (sizeOf B)) B (l .size),
         lt-ltb (length received) (2 ^ bits (sizeOf B)) (subst (λ b. length received < 2 ^ b) (sym (l .size)) (l .few)),
-        lt-ltb 0 K (l .some-checks), lt-ltb K (length received) (l .some-data), words-lawful) refl
+        lt-ltb 0 K (l .some-checks),
+        lt-ltb K (length received) (l .some-data),
+        words-lawful,
+      ) refl
 
   -- the number says which
   pub corrected-by : (buffer words : List ℕ) (number : ℕ) → length buffer ≡ length received

@@ -30,14 +30,14 @@ module _ (g buffer : List ℕ) where
   delivered f L p found text =
       record {
         answer =
-          record {
-            number = 0;
-            length = length text;
-            shape = numberOf f L;
-            position = p;
-            unread = unreadWords f L p g;
-            wrong = wrongWords f L p g found;
-          };
+            record {
+              number = 0;
+              length = length text;
+              shape = numberOf f L;
+              position = p;
+              unread = unreadWords f L p g;
+              wrong = wrongWords f L p g found;
+            };
         message = text ++ drop (length text) buffer;
       }
 

@@ -43,6 +43,7 @@ read-most B (b ∷ l) x zero at s five = stop (stops B (b ∷ l)) (read-most B l
         prepend-most (length l - k) (length (b ∷ l) - 0) (adds i (drop u (b ∷ l))) (readFrom B k (at + 1) (setAfter s i) l)
         (omega (arith, length-adds i (drop u (b ∷ l)))) (ih k (at + 1) (setAfter s i) (q .3))
     on (Fault n) q ih = tt
+
     stop : (t : Bool) → ((k at s : ℕ) → s < 5 → Most (length l - k) (readFrom B k at s l))
         → Most (length (b ∷ l) - 0)
         (cond t (items.message []) (proceed (itemAt s (b ∷ l)) at s (b ∷ l) (λ u t. readFrom B (u - 1) (at + 1) t l)))

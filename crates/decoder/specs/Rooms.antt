@@ -1,12 +1,10 @@
 -- The decoder's work buffers, large enough for any shape, and what they have to hold.
 -- Assumes nothing.
-use mathlib.Core.Bool.{Bool, true, false}
 use mathlib.Core.List.{List}
 use Prim.Native.Nat.{ℕ, _*_, _≤_}
 use native.Mathlib.Nat.{le-trans, mul-le-mul}
 use native.Mathlib.Omega.{arith}
 use lib.ListN.{length}
-use Rattle.symbol.specs.Places.{modeRun}
 
 pub record Rooms (upright mode received unread marks found : List ℕ) : Type 0 where
   pub upright-room : 22801 ≤ length upright
@@ -15,11 +13,6 @@ pub record Rooms (upright mode received unread marks found : List ℕ) : Type 0 
   pub unread-room : 1664 ≤ length unread
   pub marks-room : 1664 ≤ length marks
   pub found-room : 1664 ≤ length found
-
-pub run-most : (f : Bool) → modeRun f ≤ 10
-unfolding modeRun
-run-most false = omega arith
-run-most true = omega arith
 
 pub area-most : (n : ℕ) → n ≤ 151 → n * n ≤ 22801
 area-most n h = le-trans (mul-le-mul {n₁ = n} {m₁ = n} {n₂ = 151} {m₂ = 151} h h) (omega arith)

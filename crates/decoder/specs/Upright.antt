@@ -32,14 +32,14 @@ module _ (buffer : List ℕ) where
   answerWith f L p received marks found text =
       record {
         answer =
-          record {
-            number = 0;
-            length = length text;
-            shape = numberOf f L;
-            position = p;
-            unread = unreadOf (length marks) marks;
-            wrong = wrongOf (length received) received marks found;
-          };
+            record {
+              number = 0;
+              length = length text;
+              shape = numberOf f L;
+              position = p;
+              unread = unreadOf (length marks) marks;
+              wrong = wrongOf (length received) received marks found;
+            };
         message = text ++ drop (length text) buffer;
       }
 

@@ -72,7 +72,17 @@ fn read_grid(
     let turns = position::position_of(full, n, grid);
     if turns < 8 {
         return read_at(
-            upright, mode_words, received, unread, marks, found, full, n, turns, grid, message,
+            upright,
+            mode_words,
+            received,
+            unread,
+            marks,
+            found,
+            full,
+            n,
+            turns,
+            grid,
+            message,
         );
     }
     delivering::refused(14)
@@ -100,7 +110,15 @@ pub fn decode_in(
         }
         if modules::all_read(grid) {
             return read_grid(
-                upright, mode_words, received, unread, marks, found, n, grid, message,
+                upright,
+                mode_words,
+                received,
+                unread,
+                marks,
+                found,
+                n,
+                grid,
+                message,
             );
         }
         return delivering::refused(13);

@@ -2,7 +2,6 @@
 ghost use mathlib.Core.Path.{_≡_};
 ghost use Rattle.decoder.specs.Decode.{decodeOf};
 
-
 pub mod correcting;
 pub mod counts;
 pub mod delivering;

@@ -33,10 +33,24 @@ fn read_found(
     ensures { λ r. ⌜ now (message .exit) ≡ readFound (now (message .entry)) (now (upright .entry)) full layers «data_words» position (blockOf (now (message .entry)) (now (upright .entry)) full layers «data_words») .message ⌝ }
 {
     if correcting::correct_block(
-        received, unread, marks, full, layers, data_words, upright, found,
+        received,
+        unread,
+        marks,
+        full,
+        layers,
+        data_words,
+        upright,
+        found,
     ) {
         return delivering::deliver(
-            full, layers, position, data_words, received, unread, found, message,
+            full,
+            layers,
+            position,
+            data_words,
+            received,
+            unread,
+            found,
+            message,
         );
     }
     delivering::refused(17)
@@ -101,7 +115,17 @@ pub fn read_said(
         let layers = said::said_layers(full, mode_words);
         let data_words = said::said_words(full, mode_words);
         return read_shape(
-            received, unread, marks, found, full, n, layers, position, data_words, upright, message,
+            received,
+            unread,
+            marks,
+            found,
+            full,
+            n,
+            layers,
+            position,
+            data_words,
+            upright,
+            message,
         );
     }
     delivering::refused(15)

@@ -70,9 +70,9 @@ plan-fits message percent e =
           some-bytes = omega (arith, eqb-false (length message) 0 p);
           fit = found .0;
           answer =
-            ap (λ a. staged a (ltb percent 5 || ltb 95 percent) (firstFrom test 0 33)) p
-            ∙ ap (λ b. staged false b (firstFrom test 0 33)) q
-            ∙ ap (staged false false) r;
+              ap (λ a. staged a (ltb percent 5 || ltb 95 percent) (firstFrom test 0 33)) p
+              ∙ ap (λ b. staged false b (firstFrom test 0 33)) q
+              ∙ ap (staged false false) r;
         }
 
 listed-shaped : (i : ℕ) → i < 33 → Shaped (isFull (listed i)) (layers (listed i))

@@ -48,6 +48,12 @@ pub fn encode(message: &[u8], percent: u32, grid: &mut [u8]) -> Encoded
     }
     let number = answer.shape as usize;
     let layers = shapes::layers_of(number);
-    message_symbol::draw_message(message, 4 < number, layers, answer.data_words as usize, grid);
+    message_symbol::draw_message(
+        message,
+        4 < number,
+        layers,
+        answer.data_words as usize,
+        grid,
+    );
     answer
 }

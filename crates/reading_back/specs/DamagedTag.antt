@@ -191,8 +191,11 @@ module _ (message : List ℕ) (x : Bytes message) (f : Bool) (L D : ℕ) (fit : 
       taken : decodeOf g n buffer ≡ readGrid g buffer n
       unfolding decodeOf modulesRead
       taken =
-          rw (side-of-shape f L (fit .shaped), eq-eqb (length g) (n * n) size,
-            true-of (all (length g) (λ k. leb (getD g k 0) 2)) (all-of (length g) _ (λ k h. le→leb _ _ (read k h)))) refl
+          rw (
+            side-of-shape f L (fit .shaped),
+            eq-eqb (length g) (n * n) size,
+            true-of (all (length g) (λ k. leb (getD g k 0) 2)) (all-of (length g) _ (λ k h. le→leb _ _ (read k h))),
+          ) refl
 
       lawful : lawfulMode f n L D ≡ true
       unfolding lawfulMode
@@ -201,14 +204,14 @@ module _ (message : List ℕ) (x : Bytes message) (f : Bool) (L D : ℕ) (fit : 
       pub tag-read : decodeOf g n buffer
           ≡ record {
             answer =
-              record {
-                number = 0;
-                length = length message;
-                shape = numberOf f L;
-                position = p;
-                unread = unreadWords f L p g;
-                wrong = wrongWords f L p g (block message f L);
-              };
+                record {
+                  number = 0;
+                  length = length message;
+                  shape = numberOf f L;
+                  position = p;
+                  unread = unreadWords f L p g;
+                  wrong = wrongWords f L p g (block message f L);
+                };
             message = message ++ drop (length message) buffer;
           }
       unfolding readGrid readShape deliver

@@ -66,14 +66,14 @@ module _ (message : List ℕ) (percent : ℕ) where
   readBack p g buffer =
       record {
         answer =
-          record {
-            number = 0;
-            length = length message;
-            shape = planOf message percent .shape;
-            position = p;
-            unread = unreadWords full L p g;
-            wrong = wrongWords full L p g (block message full L);
-          };
+            record {
+              number = 0;
+              length = length message;
+              shape = planOf message percent .shape;
+              position = p;
+              unread = unreadWords full L p g;
+              wrong = wrongWords full L p g (block message full L);
+            };
         message = message ++ drop (length message) buffer;
       }
 
@@ -111,14 +111,14 @@ module _ (message : List ℕ) (percent : ℕ) where
         shaped k =
             record {
               answer =
-                record {
-                  number = 0;
-                  length = length message;
-                  shape = k;
-                  position = p;
-                  unread = unreadWords full L p g;
-                  wrong = wrongWords full L p g (block message full L);
-                };
+                  record {
+                    number = 0;
+                    length = length message;
+                    shape = k;
+                    position = p;
+                    unread = unreadWords full L p g;
+                    wrong = wrongWords full L p g (block message full L);
+                  };
               message = message ++ drop (length message) buffer;
             }
 

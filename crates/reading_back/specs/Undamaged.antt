@@ -228,22 +228,22 @@ module _ (message : List ℕ) (percent : ℕ) (x : Bytes message) (made : planOf
         position = turned;
         size = ap length tag-is ∙ length-placed (side f ls) p (symbol f ls ms ws) ∙ ap (λ m. m * m) (sym (answer .side-is));
         modules =
-          λ k h. subst (λ g. getD g k 0 ≤ 2) (sym tag-is)
-          (let l = placed-most (side f ls) p (symbol f ls ms ws) (symbol-most f ls ms ws) k in omega (arith, l));
+            λ k h. subst (λ g. getD g k 0 ≤ 2) (sym tag-is)
+            (let l = placed-most (side f ls) p (symbol f ls ms ws) (symbol-most f ls ms ws) k in omega (arith, l));
         orientation =
-          subst (λ c. c ≤ 1)
-          (sym (count-zero 12
-          (λ k. let at = placeIn (n message percent) p (orientationPlace f (n message percent) k) in
-          not (eqb (getD (madeTag message percent p) at 0) (getD (madeTag message percent p) at 0)))
-          (λ k h. let at = placeIn (n message percent) p (orientationPlace f (n message percent) k) in
-          ap not (eq-eqb (getD (madeTag message percent p) at 0) (getD (madeTag message percent p) at 0) refl))))
-          (omega arith);
+            subst (λ c. c ≤ 1)
+            (sym (count-zero 12
+            (λ k. let at = placeIn (n message percent) p (orientationPlace f (n message percent) k) in
+            not (eqb (getD (madeTag message percent p) at 0) (getD (madeTag message percent p) at 0)))
+            (λ k h. let at = placeIn (n message percent) p (orientationPlace f (n message percent) k) in
+            ap not (eq-eqb (getD (madeTag message percent p) at 0) (getD (madeTag message percent p) at 0) refl))))
+            (omega arith);
         mode =
-          subst (λ g. Within (modeChecks f) (modeWordsIn f (n message percent) p g) (modeMarksIn f (n message percent) p g) ms) (sym tag-is)
-          (subst (λ m. Within (modeChecks f) (modeWordsIn f m p shown) (modeMarksIn f m p shown) ms) (sym (answer .side-is)) mode-exact);
+            subst (λ g. Within (modeChecks f) (modeWordsIn f (n message percent) p g) (modeMarksIn f (n message percent) p g) ms) (sym tag-is)
+            (subst (λ m. Within (modeChecks f) (modeWordsIn f m p shown) (modeMarksIn f m p shown) ms) (sym (answer .side-is)) mode-exact);
         data-block =
-          subst (λ g. Within (K message percent) (blockWordsIn f ls p g) (blockMarksIn f ls ds p g) ws) (sym tag-is)
-          (subst (λ k. Within k (blockWordsIn f ls p shown) (blockMarksIn f ls ds p shown) ws) (sym (answer .checks-are)) block-exact);
+            subst (λ g. Within (K message percent) (blockWordsIn f ls p g) (blockMarksIn f ls ds p g) ws) (sym tag-is)
+            (subst (λ k. Within k (blockWordsIn f ls p shown) (blockMarksIn f ls ds p shown) ws) (sym (answer .checks-are)) block-exact);
       }
 
   -- so it is read back in every position

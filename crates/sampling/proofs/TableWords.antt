@@ -16,11 +16,6 @@ use Rattle.symbol.specs.Tables.{table-at}
 use Rattle.sampling.specs.Sampled.{tableModule, modeModuleOf, blockModuleOf, modeWordsOf, modeMarksOf, blockWordsOf, blockMarksOf, values-same, marks-same}
 
 -- the tables have room
-pub run-most : (f : Bool) → modeRun f ≤ 10
-unfolding modeRun
-run-most false = omega arith
-run-most true = omega arith
-
 below : (a L : ℕ) → a ≤ 112 → L ≤ 4 → (a + 16 * L) * L ≤ 704
 below a L h k = le-trans (mul-le-mul {n₁ = a + 16 * L} {m₁ = L} {n₂ = 176} {m₂ = 4} (omega arith) k) (omega arith)
 

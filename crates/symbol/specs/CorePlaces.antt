@@ -79,8 +79,8 @@ on-ring f x t =
       row = leb→le _ _ (inside .0);
       col = leb→le _ _ (inside .1);
       edge =
-        λ a b c d. go a b c d
-        (either (eqb (x .0) 0 || eqb (x .0) (2 * core f)) (eqb (x .1) 0 || eqb (x .1) (2 * core f)) (parts .1));
+          λ a b c d. go a b c d
+          (either (eqb (x .0) 0 || eqb (x .0) (2 * core f)) (eqb (x .1) 0 || eqb (x .1) (2 * core f)) (parts .1));
     }
   where
     ends : (a : ℕ) → T (eqb a 0 || eqb a (2 * core f)) → 0 < a → a < 2 * core f → ⊥

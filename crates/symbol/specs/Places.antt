@@ -3,7 +3,8 @@
 -- Assumes nothing.
 use mathlib.Core.Bool.{Bool, true, false, cond}
 use mathlib.Core.List.{List, [], _∷_}
-use Prim.Native.Nat.{ℕ, zero, suc, _+_, _*_, _-_, _/_, _%_, max}
+use Prim.Native.Nat.{ℕ, zero, suc, _+_, _*_, _-_, _/_, _%_, _≤_, max}
+use native.Mathlib.Omega.{arith}
 use lib.Dec.{eqb, ltb}
 use Rattle.symbol.specs.Shapes.{side, square, core, centre}
 
@@ -69,6 +70,11 @@ orientationPlace f n k = corePlace f n (orientationCell f k)
 unfoldable pub modeRun : Bool → ℕ
 modeRun false = 7
 modeRun true = 10
+
+pub run-most : (f : Bool) → modeRun f ≤ 10
+unfolding modeRun
+run-most false = omega arith
+run-most true = omega arith
 
 unfoldable pub modeColumn : Bool → ℕ → ℕ
 modeColumn false j = 2 + j

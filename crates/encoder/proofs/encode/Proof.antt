@@ -59,8 +59,8 @@ returns-2 c =
     let p = c .before .before .before .before .before in
     let a = start p .args in
     let e =
-        encode-short (message p) (a .percent) (a .grid .now) (sym (ap (λ r. r .number) (planned p)) ∙ c .before .before .before .if1 .left)
-        (subst (λ r. length (a .grid .now) < r .side * r .side) (planned p) (c .before .if2 .taken)) in
+    encode-short (message p) (a .percent) (a .grid .now) (sym (ap (λ r. r .number) (planned p)) ∙ c .before .before .before .if1 .left)
+    (subst (λ r. length (a .grid .now) < r .side * r .side) (planned p) (c .before .if2 .taken)) in
     (c .refused .ensures ∙ sym (ap (λ r. r .answer) e), sym (ap (λ r. r .grid) e))
 
 cast-number : tie.Need-cast-number
@@ -102,13 +102,14 @@ returns-3 c =
     let p = asked d in
     let a = start p .args in
     let e =
-        encode-made (message p) (a .percent) (a .grid .now) (sym (ap (λ r. r .number) (planned p)) ∙ zero d)
-        (subst (λ r. r .side * r .side ≤ length (a .grid .now)) (planned p) (room d)) in
-    (planned p ∙ sym (ap (λ r. r .answer) e),
+    encode-made (message p) (a .percent) (a .grid .now) (sym (ap (λ r. r .number) (planned p)) ∙ zero d)
+    (subst (λ r. r .side * r .side ≤ length (a .grid .now)) (planned p) (room d)) in (
+      planned p ∙ sym (ap (λ r. r .answer) e),
       c .before .before .draw-message .ensures
-      ∙ ap (λ L. drawnMessage (message p) (isFull (answer p .shape)) L (a .grid .now)) (d .before .before .layers-of .ensures)
-      ∙ ap (λ r. drawnMessage (message p) (isFull (r .shape)) (layers (r .shape)) (a .grid .now)) (planned p)
-      ∙ sym (ap (λ r. r .grid) e))
+          ∙ ap (λ L. drawnMessage (message p) (isFull (answer p .shape)) L (a .grid .now)) (d .before .before .layers-of .ensures)
+          ∙ ap (λ r. drawnMessage (message p) (isFull (r .shape)) (layers (r .shape)) (a .grid .now)) (planned p)
+          ∙ sym (ap (λ r. r .grid) e),
+    )
 
 pub encode-spec : {M : Type 1} → statement M
 encode-spec =

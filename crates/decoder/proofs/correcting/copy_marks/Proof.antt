@@ -39,10 +39,11 @@ loop-less c = omega arith
 
 loop-again : tie.Need-loop-again Inv-loop μ-loop
 loop-again c =
-    let l = c .before .before in
-    (omega arith,
+    let l = c .before .before in (
+      omega arith,
       filled-step (λ k. getD (l .before .args .from .now) k 0) (l .loop .i) (l .before .args .to .now) (l .loop .inv .1) refl
-      (omega (arith, l .before .pre)))
+          (omega (arith, l .before .pre)),
+    )
 
 same-length : tie.Need-same-length Inv-loop μ-loop
 same-length c = kept (c .before)

@@ -48,9 +48,12 @@ mark-flat-requires c κs =
     let copy = c .before .before .before .before in
     let r = read copy in
     let a = start (sized r) in
-    let n = ap length (r .read-block .ensures .0) ∙ sym (length-block-of (a .args .full) (a .args .layers) (a .args .upright .now)) in
-    (small (sized r), omega (arith, n, a .pre .1 .0 .2), ap length (copy .copy-marks .ensures) ∙ ap length (r .read-block .ensures .1)
-      ∙ sym (length-marks-of (a .args .full) (a .args .layers) (a .args .upright .now)) ∙ sym n)
+    let n = ap length (r .read-block .ensures .0) ∙ sym (length-block-of (a .args .full) (a .args .layers) (a .args .upright .now)) in (
+      small (sized r),
+      omega (arith, n, a .pre .1 .0 .2),
+      ap length (copy .copy-marks .ensures) ∙ ap length (r .read-block .ensures .1)
+          ∙ sym (length-marks-of (a .args .full) (a .args .layers) (a .args .upright .now)) ∙ sym n,
+    )
 
 sub-checks : tie.Need-sub-checks
 sub-checks c = search needs
@@ -88,18 +91,21 @@ returns c =
     let ws = blockWordsOf f L u in
     let e = sized r .word-size-of .ensures in
     let marks =
-        flat .mark-flat .ensures
-        ∙ ap₂ (λ b w. flatMarked b D w (copy .copy-marks .last .1 .0)) e (r .read-block .ensures .0)
-        ∙ ap (flatMarked (wordSize L) D ws) (copy .copy-marks .ensures ∙ r .read-block .ensures .1) in
+    flat .mark-flat .ensures
+    ∙ ap₂ (λ b w. flatMarked b D w (copy .copy-marks .last .1 .0)) e (r .read-block .ensures .0)
+    ∙ ap (flatMarked (wordSize L) D ws) (copy .copy-marks .ensures ∙ r .read-block .ensures .1) in
     let same =
-        ap₂ (λ b w. correctOf b (length w - D) w (flat .mark-flat .last .1 .1 .1 .0) buffer) e (r .read-block .ensures .0)
-        ∙ ap₂ (λ k m. correctOf (wordSize L) (k - D) ws m buffer) (sym (length-block-of f L u)) marks in
-    (r .read-block .ensures .0,
-      (r .read-block .ensures .1,
-      corrected-by (wordSize L) (words f L - D) ws (flatMarked (wordSize L) D ws (blockMarksOf f L u))
-      (block-lawful f L D u (a .pre .0) (a .pre .1 .0 .1) (a .pre .1 .0 .2)) buffer (fixed .correct .last .1 .1 .1 .1 .0) (fixed .correct .result)
-      (a .pre .1 .1 .1 .1 ∙ length-block-of f L u)
-      (fixed .correct .ensures .0 ∙ ap (λ r. r .number) same) (fixed .correct .ensures .1 ∙ ap (λ r. r .words) same)))
+    ap₂ (λ b w. correctOf b (length w - D) w (flat .mark-flat .last .1 .1 .1 .0) buffer) e (r .read-block .ensures .0)
+    ∙ ap₂ (λ k m. correctOf (wordSize L) (k - D) ws m buffer) (sym (length-block-of f L u)) marks in (
+      r .read-block .ensures .0,
+      (
+        r .read-block .ensures .1,
+        corrected-by (wordSize L) (words f L - D) ws (flatMarked (wordSize L) D ws (blockMarksOf f L u))
+            (block-lawful f L D u (a .pre .0) (a .pre .1 .0 .1) (a .pre .1 .0 .2)) buffer (fixed .correct .last .1 .1 .1 .1 .0) (fixed .correct .result)
+            (a .pre .1 .1 .1 .1 ∙ length-block-of f L u)
+            (fixed .correct .ensures .0 ∙ ap (λ r. r .number) same) (fixed .correct .ensures .1 ∙ ap (λ r. r .words) same),
+      ),
+    )
 
 pub correct-block-spec : {M : Type 1} → statement M
 correct-block-spec =

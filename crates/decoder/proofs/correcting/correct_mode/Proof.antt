@@ -7,7 +7,7 @@ use Prim.Native.Nat.{ℕ, _≤_}
 use native.Mathlib.Omega.{arith}
 use lib.ListN.{length, take}
 use lib.Seq.{length-take-le}
-use Rattle.decoder.specs.Rooms.{run-most}
+use Rattle.symbol.specs.Places.{run-most}
 use Rattle.decoder.proofs.correcting.correct_mode.Statement.{statement}
 use Rattle.decoder.proofs.correcting.correct_mode.Tie as tie
 
@@ -32,11 +32,14 @@ slice-aggregate-correct-mode-with-2 c = sym (length-take-le (c .before .before .
 correct-mode-with-requires : tie.Need-correct-mode-with-requires
 correct-mode-with-requires c κs =
     let m = c .before .before .before in
-    let a = m .before .before .before in
-    ((a .pre .0, a .pre .1, a .pre .2),
-      (length-take-le (m .mode-run-of .result) _ (short m) ∙ m .mode-run-of .ensures,
+    let a = m .before .before .before in (
+      (a .pre .0, a .pre .1, a .pre .2),
+      (
         length-take-le (m .mode-run-of .result) _ (short m) ∙ m .mode-run-of .ensures,
-        a .pre .3))
+        length-take-le (m .mode-run-of .result) _ (short m) ∙ m .mode-run-of .ensures,
+        a .pre .3,
+      ),
+    )
 
 same-length : tie.Need-same-length
 same-length c = search needs

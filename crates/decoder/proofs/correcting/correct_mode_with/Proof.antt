@@ -40,9 +40,9 @@ returns c =
     let ws = modeWordsOf (a .args .full) (a .args .n) (a .args .upright .now) in
     let ms = modeMarksOf (a .args .full) (a .args .n) (a .args .upright .now) in
     let same =
-        ap (λ k. correctOf 4 k (read .read-mode .last .1 .1 .1 .0) (read .read-mode .last .1 .1 .1 .1 .0) (a .args .corrected .now))
-        (fixed .before .before .before .before .mode-checks-of .ensures)
-        ∙ ap₂ (λ r m. correctOf 4 (modeChecks (a .args .full)) r m (a .args .corrected .now)) (read .read-mode .ensures .0) (read .read-mode .ensures .1) in
+    ap (λ k. correctOf 4 k (read .read-mode .last .1 .1 .1 .0) (read .read-mode .last .1 .1 .1 .1 .0) (a .args .corrected .now))
+    (fixed .before .before .before .before .mode-checks-of .ensures)
+    ∙ ap₂ (λ r m. correctOf 4 (modeChecks (a .args .full)) r m (a .args .corrected .now)) (read .read-mode .ensures .0) (read .read-mode .ensures .1) in
     corrected-by 4 (modeChecks (a .args .full)) ws ms (mode-lawful (a .args .full) (a .args .n) (a .args .upright .now)) (a .args .corrected .now)
     (fixed .correct .last .1 .1 .1 .1 .0) (fixed .correct .result)
     (a .pre .1 .2 ∙ length-mode-of (a .args .full) (a .args .n) (a .args .upright .now))

@@ -67,8 +67,8 @@ returns-2 c =
     let s = j .before .before .before .before .before .before .before in
     let a = s .args in
     let e =
-        ap (deliverOf (a .message .now) (a .full) (a .layers) (a .position) (a .received .now) (a .unread .now) (a .found .now))
-        (says-refused (items.judge (wordSize (a .layers)) (words s)) _ _ (sym (judged j) ∙ c .before .before .number .given .1)) in
+    ap (deliverOf (a .message .now) (a .full) (a .layers) (a .position) (a .received .now) (a .unread .now) (a .found .now))
+    (says-refused (items.judge (wordSize (a .layers)) (words s)) _ _ (sym (judged j) ∙ c .before .before .number .given .1)) in
     (c .refused .ensures ∙ sym (ap (λ r. r .answer) e), sym (ap (λ r. r .message) e))
 
 pub deliver-spec : {M : Type 1} → statement M

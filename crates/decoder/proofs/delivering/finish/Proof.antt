@@ -36,8 +36,8 @@ returns : tie.Need-returns
 returns c =
     let a = c .before .before .before .before .before .before in
     let e =
-        deliver-short (a .args .message .now) (a .args .full) (a .args .layers) (a .args .position) (a .args .received .now) (a .args .unread .now)
-        (a .args .found .now) (says a) (c .before .if1 .taken) in
+    deliver-short (a .args .message .now) (a .args .full) (a .args .layers) (a .args .position) (a .args .received .now) (a .args .unread .now)
+    (a .args .found .now) (says a) (c .before .if1 .taken) in
     (c .refused .ensures ∙ sym (ap (λ r. r .answer) e), sym (ap (λ r. r .message) e))
 
 count-unread-requires : tie.Need-count-unread-requires
@@ -57,12 +57,17 @@ write-message-requires c κs =
     let w = c .before .before in
     let a = w .before .before .before .before .before .before .before .before in
     let e = w .word-size-of .ensures in
-    let r = word-size-range (a .args .layers) in
-    (omega (arith, e, r),
-      (omega (arith, e, r),
-      (omega (arith, length-words a, a .pre .1 .0),
-      subst (λ q. Room q (a .args .message .now)) (sym (ap (λ b. items.judge b (words a)) e ∙ says a .is))
-      (omega (arith, says a .size, w .before .before .before .if1 .left)))))
+    let r = word-size-range (a .args .layers) in (
+      omega (arith, e, r),
+      (
+        omega (arith, e, r),
+        (
+          omega (arith, length-words a, a .pre .1 .0),
+          subst (λ q. Room q (a .args .message .now)) (sym (ap (λ b. items.judge b (words a)) e ∙ says a .is))
+              (omega (arith, says a .size, w .before .before .before .if1 .left)),
+        ),
+      ),
+    )
 
 cast-t21 : tie.Need-cast-t21
 cast-t21 c =
@@ -92,16 +97,17 @@ returns-2 c =
     let a = counted .before .before .before .before .before .before .before in
     let sizes = a .pre .1 .1 .0 in
     let e =
-        deliver-made (a .args .message .now) (a .args .full) (a .args .layers) (a .args .position) (a .args .received .now) (a .args .unread .now)
-        (a .args .found .now) (says a) (counted .before .before .if1 .left) in
-    (ap₂ (λ k t. fields k t (counted .before .count-unread .result) (counted .count-wrong .result)) (sym (says a .size)) (c .number-of .ensures)
-      ∙ ap₂ (fields (length (says a .text)) (numberOf (a .args .full) (a .args .layers))) (counted .before .count-unread .ensures ∙ ap (λ n. unreadOf n (a .args .unread .now)) (sizes .0 ∙ sym (sizes .1)))
-      (counted .count-wrong .ensures)
-      ∙ sym (ap (λ r. r .answer) e),
+    deliver-made (a .args .message .now) (a .args .full) (a .args .layers) (a .args .position) (a .args .received .now) (a .args .unread .now)
+    (a .args .found .now) (says a) (counted .before .before .if1 .left) in (
+      ap₂ (λ k t. fields k t (counted .before .count-unread .result) (counted .count-wrong .result)) (sym (says a .size)) (c .number-of .ensures)
+          ∙ ap₂ (fields (length (says a .text)) (numberOf (a .args .full) (a .args .layers))) (counted .before .count-unread .ensures ∙ ap (λ n. unreadOf n (a .args .unread .now)) (sizes .0 ∙ sym (sizes .1)))
+          (counted .count-wrong .ensures)
+          ∙ sym (ap (λ r. r .answer) e),
       drawn .write-message .ensures
-      ∙ ap (λ q. written q (a .args .message .now))
-      (ap (λ b. items.judge b (words a)) (c .before .before .before .before .before .before .word-size-of .ensures) ∙ says a .is)
-      ∙ sym (ap (λ r. r .message) e))
+          ∙ ap (λ q. written q (a .args .message .now))
+          (ap (λ b. items.judge b (words a)) (c .before .before .before .before .before .before .word-size-of .ensures) ∙ says a .is)
+          ∙ sym (ap (λ r. r .message) e),
+    )
   where
     fields : ℕ → ℕ → ℕ → ℕ → Decoded
     fields k t x y =

@@ -76,8 +76,8 @@ returns-2 c =
     let t = r .before .before in
     let a = start (t .before) .args in
     let e =
-        grid-taken (a .grid .now) (a .message .now) (a .n) (sided t) (r .before .if2 .left)
-        (sym (r .all-read .ensures) ∙ g .before .before .before .before .before .before .before .before .if3 .taken) in
+    grid-taken (a .grid .now) (a .message .now) (a .n) (sided t) (r .before .if2 .left)
+    (sym (r .all-read .ensures) ∙ g .before .before .before .before .before .before .before .before .if3 .taken) in
     (g .read-grid .ensures .0 ∙ sym (ap (λ r. r .answer) e), g .read-grid .ensures .1 ∙ sym (ap (λ r. r .message) e))
 
 refused-requires-2 : tie.Need-refused-requires-2
@@ -90,7 +90,7 @@ returns-3 c =
     let t = r .before .before in
     let a = start (t .before) .args in
     let e =
-        module-refused (a .grid .now) (a .message .now) (a .n) (sided t) (r .before .if2 .left) (sym (r .all-read .ensures) ∙ c .before .if3 .left) in
+    module-refused (a .grid .now) (a .message .now) (a .n) (sided t) (r .before .if2 .left) (sym (r .all-read .ensures) ∙ c .before .if3 .left) in
     (c .refused2 .ensures ∙ sym (ap (λ r. r .answer) e), sym (ap (λ r. r .message) e))
 
 refused-requires-3 : tie.Need-refused-requires-3

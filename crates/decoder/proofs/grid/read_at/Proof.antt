@@ -8,8 +8,9 @@ use native.Mathlib.Omega.{arith}
 use lib.ListN.{length, take}
 use lib.Seq.{length-take-le}
 use Rattle.list_laws.specs.Writes.{length-writes}
+use Rattle.symbol.specs.Places.{run-most}
 use Rattle.symbol.specs.GridWords.{moduleAt}
-use Rattle.decoder.specs.Rooms.{run-most, area-most}
+use Rattle.decoder.specs.Rooms.{area-most}
 use Rattle.decoder.specs.UprightLaws.{said-same}
 use Rattle.decoder.proofs.grid.read_at.Statement.{statement}
 use Rattle.decoder.proofs.grid.read_at.Tie as tie
@@ -43,11 +44,17 @@ read-said-requires c κs =
     let t = m .before .before .before in
     let a = start t in
     let upright =
-        ap length (t .turn-upright .ensures)
-        ∙ length-writes (a .args .upright .now) (λ k. k) (moduleAt (a .args .n) (a .args .turns) (a .args .grid .now)) (a .args .n * a .args .n) in
-    ((a .pre .0 .0, a .pre .0 .1, omega (arith, upright, room a), a .pre .0 .3,
-      length-take-le (m .mode-run-of .result) (a .args .mode-words .now) (short m) ∙ m .mode-run-of .ensures),
-      (a .pre .1 .received-room, a .pre .1 .unread-room, a .pre .1 .marks-room, a .pre .1 .found-room))
+    ap length (t .turn-upright .ensures)
+    ∙ length-writes (a .args .upright .now) (λ k. k) (moduleAt (a .args .n) (a .args .turns) (a .args .grid .now)) (a .args .n * a .args .n) in (
+      (
+        a .pre .0 .0,
+        a .pre .0 .1,
+        omega (arith, upright, room a),
+        a .pre .0 .3,
+        length-take-le (m .mode-run-of .result) (a .args .mode-words .now) (short m) ∙ m .mode-run-of .ensures,
+      ),
+      (a .pre .1 .received-room, a .pre .1 .unread-room, a .pre .1 .marks-room, a .pre .1 .found-room),
+    )
 
 same-length : tie.Need-same-length
 same-length c = search needs
@@ -77,8 +84,8 @@ returns c =
     let t = m .before .before .before in
     let a = start t in
     let e =
-        said-same (a .args .n) (a .args .turns) (a .args .grid .now) (a .args .upright .now) (room a) (t .turn-upright .ensures)
-        (a .args .message .now) (a .args .full) (a .pre .0 .0) in
+    said-same (a .args .n) (a .args .turns) (a .args .grid .now) (a .args .upright .now) (room a) (t .turn-upright .ensures)
+    (a .args .message .now) (a .args .full) (a .pre .0 .0) in
     (r .read-said .ensures .0 ∙ ap (λ r. r .answer) e, r .read-said .ensures .1 ∙ ap (λ r. r .message) e)
 
 pub read-at-spec : {M : Type 1} → statement M

@@ -57,8 +57,8 @@ returns c =
     let l = p .before in
     let a = start l in
     let e =
-        grid-position (a .args .grid .now) (a .args .message .now) (a .args .n) (l .looks-full .ensures) (p .position-of .ensures)
-        (r .before .before .before .before .before .before .before .before .if1 .taken) in
+    grid-position (a .args .grid .now) (a .args .message .now) (a .args .n) (l .looks-full .ensures) (p .position-of .ensures)
+    (r .before .before .before .before .before .before .before .before .if1 .taken) in
     (r .read-at .ensures .0 ∙ ap (λ r. r .answer) e, r .read-at .ensures .1 ∙ ap (λ r. r .message) e)
 
 refused-requires : tie.Need-refused-requires
@@ -70,8 +70,8 @@ returns-2 c =
     let l = p .before in
     let a = start l in
     let e =
-        grid-none (a .args .grid .now) (a .args .message .now) (a .args .n) (l .looks-full .ensures) (p .position-of .ensures)
-        (c .before .if1 .left) in
+    grid-none (a .args .grid .now) (a .args .message .now) (a .args .n) (l .looks-full .ensures) (p .position-of .ensures)
+    (c .before .if1 .left) in
     (c .refused .ensures ∙ ap (λ r. r .answer) e, ap (λ r. r .message) e)
 
 pub read-grid-spec : {M : Type 1} → statement M

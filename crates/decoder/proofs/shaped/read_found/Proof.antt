@@ -33,11 +33,16 @@ deliver-requires : tie.Need-deliver-requires
 deliver-requires c κs =
     let k = c .before .before .before .before .before .before .before .before .before .before .before .before .before in
     let a = start k in
-    let n = length-found k in
-    (a .pre .0,
-      ((a .pre .1 .0 .3, omega (arith, n, a .pre .1 .0 .2), omega (arith, n, words-all (a .args .full) (a .args .layers) (a .pre .0))),
-      (ap length (k .correct-block .ensures .0) ∙ sym (length-block-of (a .args .full) (a .args .layers) (a .args .upright .now)) ∙ sym n,
-      ap length (k .correct-block .ensures .1 .0) ∙ sym (length-marks-of (a .args .full) (a .args .layers) (a .args .upright .now)) ∙ sym n)))
+    let n = length-found k in (
+      a .pre .0,
+      (
+        (a .pre .1 .0 .3, omega (arith, n, a .pre .1 .0 .2), omega (arith, n, words-all (a .args .full) (a .args .layers) (a .pre .0))),
+        (
+          ap length (k .correct-block .ensures .0) ∙ sym (length-block-of (a .args .full) (a .args .layers) (a .args .upright .now)) ∙ sym n,
+          ap length (k .correct-block .ensures .1 .0) ∙ sym (length-marks-of (a .args .full) (a .args .layers) (a .args .upright .now)) ∙ sym n,
+        ),
+      ),
+    )
 
 same-length : tie.Need-same-length
 same-length c = search needs
@@ -61,9 +66,9 @@ returns c =
     let a = start k in
     let here = readFound (a .args .message .now) (a .args .upright .now) (a .args .full) (a .args .layers) (a .args .data-words) (a .args .position) in
     let e =
-        ap₂ (λ r m. deliverOf (a .args .message .now) (a .args .full) (a .args .layers) (a .args .position) r m (found k)
-        (items.judge (wordSize (a .args .layers)) (take (a .args .data-words) (found k)))) (k .correct-block .ensures .0) (k .correct-block .ensures .1 .0)
-        ∙ sym (ap here (k .correct-block .ensures .1 .1 .yes (d .before .before .before .before .before .if1 .taken))) in
+    ap₂ (λ r m. deliverOf (a .args .message .now) (a .args .full) (a .args .layers) (a .args .position) r m (found k)
+    (items.judge (wordSize (a .args .layers)) (take (a .args .data-words) (found k)))) (k .correct-block .ensures .0) (k .correct-block .ensures .1 .0)
+    ∙ sym (ap here (k .correct-block .ensures .1 .1 .yes (d .before .before .before .before .before .if1 .taken))) in
     (d .deliver .ensures .0 ∙ ap (λ r. r .answer) e, d .deliver .ensures .1 ∙ ap (λ r. r .message) e)
 
 refused-requires : tie.Need-refused-requires
@@ -86,8 +91,8 @@ returns-2 c =
     let k = c .before .before .before .before .before .before .before .before .before .before in
     let a = start k in
     let e =
-        ap (readFound (a .args .message .now) (a .args .upright .now) (a .args .full) (a .args .layers) (a .args .data-words) (a .args .position))
-        (k .correct-block .ensures .1 .1 .no (c .before .if1 .left)) in
+    ap (readFound (a .args .message .now) (a .args .upright .now) (a .args .full) (a .args .layers) (a .args .data-words) (a .args .position))
+    (k .correct-block .ensures .1 .1 .no (c .before .if1 .left)) in
     (c .refused .ensures ∙ sym (ap (λ r. r .answer) e), sym (ap (λ r. r .message) e))
 
 pub read-found-spec : {M : Type 1} → statement M

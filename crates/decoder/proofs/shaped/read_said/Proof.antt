@@ -59,13 +59,18 @@ read-shape-requires c κs =
     let t = l .before .before in
     let k = t .before .before .before in
     let a = start k in
-    let ms = words k in
-    (subst (Shaped (a .args .full)) (sym (l .said-layers .ensures)) (said-shaped (a .args .full) ms (nibbles t)),
-      ((a .pre .0 .2,
-      omega (arith, w .said-words .ensures, said-some (a .args .full) ms),
-      omega (arith, w .said-words .ensures, said-most (a .args .full) ms (nibbles t), words-most (a .args .full)),
-      a .pre .0 .3),
-      a .pre .1))
+    let ms = words k in (
+      subst (Shaped (a .args .full)) (sym (l .said-layers .ensures)) (said-shaped (a .args .full) ms (nibbles t)),
+      (
+        (
+          a .pre .0 .2,
+          omega (arith, w .said-words .ensures, said-some (a .args .full) ms),
+          omega (arith, w .said-words .ensures, said-most (a .args .full) ms (nibbles t), words-most (a .args .full)),
+          a .pre .0 .3,
+        ),
+        a .pre .1,
+      ),
+    )
 
 same-length : tie.Need-same-length
 same-length c = search needs
@@ -94,9 +99,9 @@ returns c =
     let k = t .before .before .before in
     let a = start k in
     let e =
-        ap₂ (readShapeOf (a .args .message .now) (a .args .upright .now) (a .args .full) (a .args .n) (a .args .position))
-        (l .said-layers .ensures) (w .said-words .ensures)
-        ∙ sym (ap (readSaid (a .args .message .now) (a .args .upright .now) (a .args .full) (a .args .n) (a .args .position)) (found t)) in
+    ap₂ (readShapeOf (a .args .message .now) (a .args .upright .now) (a .args .full) (a .args .n) (a .args .position))
+    (l .said-layers .ensures) (w .said-words .ensures)
+    ∙ sym (ap (readSaid (a .args .message .now) (a .args .upright .now) (a .args .full) (a .args .n) (a .args .position)) (found t)) in
     (r .read-shape .ensures .0 ∙ ap (λ r. r .answer) e, r .read-shape .ensures .1 ∙ ap (λ r. r .message) e)
 
 refused-requires : tie.Need-refused-requires
@@ -110,8 +115,8 @@ returns-2 c =
     let k = c .before .before .before .before in
     let a = start k in
     let e =
-        ap (readSaid (a .args .message .now) (a .args .upright .now) (a .args .full) (a .args .n) (a .args .position))
-        (k .correct-mode .ensures .no (c .before .if1 .left)) in
+    ap (readSaid (a .args .message .now) (a .args .upright .now) (a .args .full) (a .args .n) (a .args .position))
+    (k .correct-mode .ensures .no (c .before .if1 .left)) in
     (c .refused .ensures ∙ sym (ap (λ r. r .answer) e), sym (ap (λ r. r .message) e))
 
 pub read-said-spec : {M : Type 1} → statement M

@@ -68,11 +68,14 @@ read-found-requires c κs =
     let a = start w in
     let e = w .words-of .ensures in
     let lawful =
-        lawful-parts (a .args .full) (a .args .n) (a .args .layers) (a .args .data-words)
-        (sym (w .before .before .is-lawful .ensures) ∙ w .before .if1 .taken) in
-    (a .pre .0,
-      ((subst (λ m. m * m ≤ length (a .args .upright .now)) (sym (lawful .0)) (a .pre .1 .0 .0), a .pre .1 .0 .1, lawful .1, a .pre .1 .0 .3),
-      ((front w _ (a .pre .1 .1 .0) ∙ e, front w _ (a .pre .1 .1 .1) ∙ e), (front w _ (a .pre .1 .1 .2) ∙ e, front w _ (a .pre .1 .1 .3) ∙ e))))
+    lawful-parts (a .args .full) (a .args .n) (a .args .layers) (a .args .data-words)
+    (sym (w .before .before .is-lawful .ensures) ∙ w .before .if1 .taken) in (
+      a .pre .0,
+      (
+        (subst (λ m. m * m ≤ length (a .args .upright .now)) (sym (lawful .0)) (a .pre .1 .0 .0), a .pre .1 .0 .1, lawful .1, a .pre .1 .0 .3),
+        ((front w _ (a .pre .1 .1 .0) ∙ e, front w _ (a .pre .1 .1 .1) ∙ e), (front w _ (a .pre .1 .1 .2) ∙ e, front w _ (a .pre .1 .1 .3) ∙ e)),
+      ),
+    )
 
 same-length : tie.Need-same-length
 same-length c = search needs
@@ -95,8 +98,8 @@ returns c =
     let w = r .before .before .before .before .before .before in
     let a = start w in
     let e =
-        shape-lawful (a .args .message .now) (a .args .upright .now) (a .args .full) (a .args .n) (a .args .position) (a .args .layers)
-        (a .args .data-words) (sym (w .before .before .is-lawful .ensures) ∙ w .before .if1 .taken) in
+    shape-lawful (a .args .message .now) (a .args .upright .now) (a .args .full) (a .args .n) (a .args .position) (a .args .layers)
+    (a .args .data-words) (sym (w .before .before .is-lawful .ensures) ∙ w .before .if1 .taken) in
     (r .read-found .ensures .0 ∙ sym (ap (λ r. r .answer) e), r .read-found .ensures .1 ∙ sym (ap (λ r. r .message) e))
 
 refused-requires : tie.Need-refused-requires
@@ -107,8 +110,8 @@ returns-2 c =
     let l = c .before .before in
     let a = l .before .before .before .before .before .before .before in
     let e =
-        shape-unlawful (a .args .message .now) (a .args .upright .now) (a .args .full) (a .args .n) (a .args .position) (a .args .layers)
-        (a .args .data-words) (sym (l .is-lawful .ensures) ∙ c .before .if1 .left) in
+    shape-unlawful (a .args .message .now) (a .args .upright .now) (a .args .full) (a .args .n) (a .args .position) (a .args .layers)
+    (a .args .data-words) (sym (l .is-lawful .ensures) ∙ c .before .if1 .left) in
     (c .refused .ensures ∙ sym (ap (λ r. r .answer) e), sym (ap (λ r. r .message) e))
 
 pub read-shape-spec : {M : Type 1} → statement M

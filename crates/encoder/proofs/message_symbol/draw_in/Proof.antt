@@ -8,15 +8,10 @@ use native.Mathlib.Omega.{arith}
 use lib.ListN.{length, take}
 use lib.Seq.{length-take-le}
 use Rattle.symbol.specs.DataPlaces.{most-layers}
-use Rattle.symbol.specs.Places.{modeRun}
+use Rattle.symbol.specs.Places.{run-most}
 use Rattle.encoder.specs.EncodeLaws.{words-all}
 use Rattle.encoder.proofs.message_symbol.draw_in.Statement.{statement}
 use Rattle.encoder.proofs.message_symbol.draw_in.Tie as tie
-
-run-most : (f : Bool) → modeRun f ≤ 10
-unfolding modeRun
-run-most false = omega arith
-run-most true = omega arith
 
 abbrev start : tie.After-mode-run-of → tie.Start
 start c = c .before .before .before .before .before .before

@@ -65,9 +65,16 @@ front-stored a = let v = value a in stored-four (a .args .words .now) (v / 4096 
 
 fill-check-words-requires : tie.Need-fill-check-words-requires
 fill-check-words-requires c κs =
-    let a = c .before .before in
-    (refl, (simp length-set (omega (arith, a .pre .4)), (simp length-set (omega (arith, a .pre .4)),
-      four-words (a .args .words .now) _ _ _ _ (omega (arith, a .pre .4)))))
+    let a = c .before .before in (
+      refl,
+      (
+        simp length-set (omega (arith, a .pre .4)),
+        (
+          simp length-set (omega (arith, a .pre .4)),
+          four-words (a .args .words .now) _ _ _ _ (omega (arith, a .pre .4)),
+        ),
+      ),
+    )
 
 abbrev start : tie.After-slice-known2 → tie.Start
 start c = c .before .before .before .before .before

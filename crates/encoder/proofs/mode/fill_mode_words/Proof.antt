@@ -15,12 +15,13 @@ fill-full-requires : tie.Need-fill-full-requires
 unfolding mostWords mostLayers modeRun
 fill-full-requires c κs =
     let a = c .before .before .before in
-    let e = c .before .if1 .taken in
-    (a .pre .0 .some,
+    let e = c .before .if1 .taken in (
+      a .pre .0 .some,
       subst (λ (f : Bool). a .args .layers ≤ mostLayers f) e (a .pre .0 .most),
       a .pre .1 .0,
       subst (λ (f : Bool). a .args .data-words ≤ mostWords f) e (a .pre .1 .1),
-      a .pre .1 .2 ∙ ap modeRun e)
+      a .pre .1 .2 ∙ ap modeRun e,
+    )
 
 same-length : tie.Need-same-length
 same-length c = search needs
@@ -34,12 +35,13 @@ fill-compact-requires : tie.Need-fill-compact-requires
 unfolding mostWords mostLayers modeRun
 fill-compact-requires c κs =
     let a = c .before .before .before in
-    let e = c .before .if1 .left in
-    (a .pre .0 .some,
+    let e = c .before .if1 .left in (
+      a .pre .0 .some,
       subst (λ (f : Bool). a .args .layers ≤ mostLayers f) e (a .pre .0 .most),
       a .pre .1 .0,
       subst (λ (f : Bool). a .args .data-words ≤ mostWords f) e (a .pre .1 .1),
-      a .pre .1 .2 ∙ ap modeRun e)
+      a .pre .1 .2 ∙ ap modeRun e,
+    )
 
 same-length-2 : tie.Need-same-length-2
 same-length-2 c = search needs

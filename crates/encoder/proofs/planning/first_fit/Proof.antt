@@ -105,12 +105,13 @@ loop-again c =
     let t = c .before .before in
     let test = fitsListed (start t .args .message .now) (start t .args .percent) in
     let i = turn t .loop .i in
-    let failed = sym (tried-fits (tried t) (inside t) (start t .args .percent) (bytes t)) ∙ sym (c .before .fits2 .ensures) ∙ c .if1 .left in
-    (omega (arith, inside t),
+    let failed = sym (tried-fits (tried t) (inside t) (start t .args .percent) (bytes t)) ∙ sym (c .before .fits2 .ensures) ∙ c .if1 .left in (
+      omega (arith, inside t),
       t .count-at .ensures .1 ∙ ap (λ b. wordsNeeded b (start t .args .message .now)) (sym (t .count-at .ensures .0)),
       ap (firstFrom test (i + 1)) (let z : 33 - (i + 1) ≡ 33 - i - 1 = omega arith in z)
-      ∙ sym (first-next test i (33 - i) (omega (arith, inside t)) failed)
-      ∙ turn t .loop .inv .2)
+          ∙ sym (first-next test i (33 - i) (omega (arith, inside t)) failed)
+          ∙ turn t .loop .inv .2,
+    )
 
 refused-requires : tie.Need-refused-requires Inv-loop μ-loop
 refused-requires c κs = tt

@@ -4,10 +4,10 @@ use borrow.Author.Needs.{needs}
 use Prim.Native.Nat.{_*_}
 use native.Mathlib.Omega.{arith}
 use lib.ListN.{replicate}
-use Rattle.symbol.specs.Places.{modeRun, modePlace}
+use Rattle.symbol.specs.Places.{modeRun, modePlace, run-most}
 use Rattle.symbol.specs.CorePlaces.{mode-lt}
 use Rattle.symbol.specs.Tables.{table-fits}
-use Rattle.sampling.proofs.TableWords.{run-most, mode-values, mode-marks}
+use Rattle.sampling.proofs.TableWords.{mode-values, mode-marks}
 use Rattle.sampling.proofs.blocks.read_mode.Statement.{statement}
 use Rattle.sampling.proofs.blocks.read_mode.Tie as tie
 

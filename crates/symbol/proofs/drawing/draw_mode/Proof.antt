@@ -8,18 +8,13 @@ use native.Mathlib.Omega.{arith}
 use lib.ListN.{replicate}
 use Rattle.list_laws.specs.Writes.{writes}
 use Rattle.symbol.specs.Shapes.{side}
-use Rattle.symbol.specs.Places.{modeRun, modePlace}
+use Rattle.symbol.specs.Places.{modeRun, modePlace, run-most}
 use Rattle.symbol.specs.DataPlaces.{most-layers, side-most}
 use Rattle.symbol.specs.CorePlaces.{core-room, mode-lt}
 use Rattle.symbol.specs.Drawing.{wordsBit, withMode}
 use Rattle.symbol.specs.Tables.{table-fits, table-draws}
 use Rattle.symbol.proofs.drawing.draw_mode.Statement.{statement}
 use Rattle.symbol.proofs.drawing.draw_mode.Tie as tie
-
-run-most : (f : Bool) → modeRun f ≤ 10
-unfolding modeRun
-run-most false = omega arith
-run-most true = omega arith
 
 abbrev start : tie.After-mode-places → tie.Start
 start c = c .before .before .before .before .before
