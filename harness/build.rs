@@ -1,5 +1,6 @@
 //! Links the archives under test, that of the stream only where it exists, and libfec only
-//! where its feature is asked for. The maker is called only where the archive has it.
+//! where its feature is asked for. Maker and reader are called only where the archive has
+//! them.
 
 use std::{env, path::Path, process::Command};
 
@@ -12,9 +13,11 @@ fn main() {
     println!("cargo:rerun-if-changed={}", aztec.display());
     println!("cargo:rustc-link-search=native={}", folder.display());
     println!("cargo:rustc-link-lib=static=aztec_c");
-    println!("cargo:rustc-check-cfg=cfg(aztec_encode)");
-    if defines(&aztec, "aztec_encode") {
-        println!("cargo:rustc-cfg=aztec_encode");
+    for function in ["aztec_encode", "aztec_decode"] {
+        println!("cargo:rustc-check-cfg=cfg({function})");
+        if defines(&aztec, function) {
+            println!("cargo:rustc-cfg={function}");
+        }
     }
     let stream = folder.join("libstream_c.a");
     println!("cargo:rerun-if-changed={}", stream.display());

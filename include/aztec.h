@@ -15,8 +15,8 @@ extern "C" {
    is 0 for a word that was read and 1 for one that was not, whose value is ignored.
    0: corrected holds the one valid block that differs from the words read in r places, with e words marked and 2r + e at most
       check_words.
-   31: the three buffers differ in length. 32: another word size, no word or more than 2^word_size - 1, no check word or as many as
-   words. 33: a mark above 1, or an unmarked word of 2^word_size or more. 34: there is no such block.
+   31: the three buffers differ in length. 32: another word size, no word or more than 2^word_size - 1, no check word, or as many as
+   words or more. 33: a mark above 1, or an unmarked word of 2^word_size or more. 34: there is no such block.
    A lower number comes first, and a number other than 0 leaves corrected as it was. */
 uint32_t aztec_correct(uint32_t word_size, size_t check_words,
                        const uint16_t *received, size_t received_length,
@@ -53,9 +53,9 @@ struct aztec_decoded {
    0: the first length bytes of message are the message, and the rest is as it was.
    11: side is no shape's. 12: grid_length is not side * side. 13: a module above 2. 14: no single best position with 9 of the 12
    orientation modules. 15: mode message beyond correction. 16: it names a shape of another side, or leaves fewer than 3 check words.
-   17: block beyond correction. 18: a corrected data word of all 0s or all 1s. 19: FLG, or a shift before a code that is no character.
-   20: an item cut short. 21: message is shorter than the message; 8192 is enough for every symbol. A lower number comes first, but 19
-   and 20 go by the first item at fault, and a number other than 0 leaves message as it was. */
+   17: block beyond correction. 18: a corrected data word of all 0s or all 1s. 19: FLG, or a shift before a whole code that is no
+   character or pair. 20: an item cut short. 21: the buffer is shorter than the message; 19968 bytes are enough for every symbol.
+   A lower number comes first, but 19 and 20 go by the first item at fault, and a number other than 0 leaves message as it was. */
 struct aztec_decoded aztec_decode(const uint8_t *grid, size_t grid_length, uint32_t side,
                                   uint8_t *message, size_t message_length);
 

@@ -1,21 +1,21 @@
 //! The cases: calls with the answer known beforehand, where there is one.
 
-#[cfg(stream_c)]
 pub mod blocks;
 pub mod damage;
 pub mod drawings;
 pub mod edges;
+pub mod grids;
 pub mod kinds;
 pub mod large;
 pub mod named;
 pub mod records;
 pub mod refused;
+pub mod sheet;
 pub mod small;
 pub mod tags;
 #[cfg(stream_c)]
 pub mod text;
 pub mod unlawful;
-#[cfg(stream_c)]
 pub mod walks;
 
 use crate::field::{Field, SIZES};

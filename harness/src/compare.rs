@@ -21,7 +21,7 @@ pub struct Tally {
     pub passed: usize,
     pub failed: usize,
     /// How often each number was due.
-    numbers: BTreeMap<u32, usize>,
+    pub numbers: BTreeMap<u32, usize>,
     /// Cases of each label.
     labels: BTreeMap<&'static str, usize>,
 }

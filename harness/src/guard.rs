@@ -113,6 +113,36 @@ pub fn untouched(len: usize) -> Vec<u16> {
         .collect()
 }
 
+/// What stands in a message buffer before a call.
+pub fn untouched_bytes(len: usize, turn: usize) -> Vec<u8> {
+    (0..len)
+        .map(|i| (i as u8).wrapping_mul(0x4F) ^ (0x96 + turn as u8 % 9))
+        .collect()
+}
+
+/// Lists a buffer whose guards, or an input whose values, are no longer what they were.
+pub fn trespasses<T: Copy + PartialEq>(
+    name: &str,
+    lent: &Guarded<T>,
+    input: Option<&[T]>,
+) -> Vec<String> {
+    let mut list = Vec::new();
+    if !lent.guards_intact() {
+        list.push(format!("what lies beside `{name}` was changed"));
+    }
+    if input.is_some_and(|input| lent.inside() != input) {
+        list.push(format!("the input `{name}` was changed"));
+    }
+    list
+}
+
+/// The first place at which a buffer is not as due.
+pub fn unlike<T: Copy + PartialEq + std::fmt::Debug>(got: &[T], due: &[T]) -> Option<String> {
+    let place = got.iter().zip(due).position(|(got, due)| got != due)?;
+    let (got, due) = (got[place], due[place]);
+    Some(format!("at place {place} stands {got:?}, due {due:?}"))
+}
+
 /// The three buffers lent for one call.
 struct Lent {
     received: Guarded<u16>,

@@ -6,6 +6,8 @@
 //! the bit stream, where the archive `libstream_c.a` was there when the harness was built.
 //! `harness compare-encode [--seed N] [--count N]` and `harness bench-encode` do so for the
 //! maker, where `libaztec_c.a` defined `aztec_encode` when the harness was built.
+//! `harness compare-decode [--seed N] [--count N]` and `harness bench-decode` do so for the
+//! reader, where `libaztec_c.a` defined `aztec_decode` when the harness was built.
 //! `harness compare-listing PROGRAM [--seed N] [--count N]` and `harness bench-listing PROGRAM`
 //! run the print run's program; `harness own-listing [FILE]` lists by the harness's own maker.
 //! `harness draw-list FOLDER [--own]` draws 300 symbols for another reader.
@@ -13,29 +15,35 @@
 mod bench;
 mod cases;
 mod compare;
+mod decode;
 mod encode;
 mod field;
 mod guard;
 mod listing;
 mod peer;
 mod random;
+mod reader;
 mod reference;
 mod stream;
 mod symbol;
+mod times;
 
 use std::process::ExitCode;
 
 const USAGE: &str = "usage: harness compare [--seed N] [--count N] | harness bench
        harness compare-stream [--seed N] [--count N] | harness bench-stream
        harness compare-encode [--seed N] [--count N] | harness bench-encode
+       harness compare-decode [--seed N] [--count N] | harness bench-decode
        harness compare-listing PROGRAM [--seed N] [--count N] | harness bench-listing PROGRAM
        harness own-listing [FILE] | harness draw-list FOLDER [--own]";
 const SEED: u64 = 24_778;
 
 /// How many cases by chance, where `--count` doesn't say: blocks or messages for the corrector
-/// and the stream, messages for the maker, files for the print run.
+/// and the stream, messages for the maker, damaged symbols for the reader, files for the print
+/// run.
 const COUNT: usize = 20_000;
 const ENCODE_COUNT: usize = 6_000;
+const DECODE_COUNT: usize = 3_000;
 const LISTING_COUNT: usize = 200;
 
 fn main() -> ExitCode {
@@ -49,6 +57,10 @@ fn main() -> ExitCode {
         ["bench-encode"] => encode::bench::run(),
         ["compare-encode", options @ ..] => {
             with_options(options, ENCODE_COUNT, encode::compare::run)
+        }
+        ["bench-decode"] => decode::bench::run(),
+        ["compare-decode", options @ ..] => {
+            with_options(options, DECODE_COUNT, decode::compare::run)
         }
         ["bench-listing", program] => listing::bench::run(program),
         ["compare-listing", program, options @ ..] => {

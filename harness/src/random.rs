@@ -44,6 +44,12 @@ impl Random {
         all
     }
 
+    /// The same things in another order.
+    pub fn shuffled<T: Copy>(&mut self, list: &[T]) -> Vec<T> {
+        let order = self.places(list.len(), list.len());
+        order.into_iter().map(|place| list[place]).collect()
+    }
+
     /// Words of a size, any value.
     pub fn words(&mut self, bits: u32, count: usize) -> Vec<u16> {
         (0..count).map(|_| self.below(1 << bits) as u16).collect()

@@ -1,8 +1,8 @@
 //! The bit stream of document 01, "From bytes to words" and step 4 of "How a grid is read",
 //! written plainly: bits are a `Vec<bool>`, and every rule stands once.
 //!
-//! The maker is built on `codes` and `write`; the rest is left out where `libstream_c.a`,
-//! which it judges, is missing.
+//! Maker and reader are built on `codes`, `write` and `read`; the rest is left out where
+//! `libstream_c.a`, which it judges, is missing.
 
 #[cfg(stream_c)]
 pub mod bench;
@@ -11,7 +11,6 @@ pub mod calls;
 pub mod codes;
 #[cfg(stream_c)]
 pub mod compare;
-#[cfg(stream_c)]
 pub mod read;
 pub mod write;
 

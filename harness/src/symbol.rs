@@ -2,9 +2,11 @@
 //!
 //! Stream and stuffing are `stream`'s, the check words `reference`'s long division.
 
+pub mod core;
 pub mod faults;
 pub mod grid;
 pub mod places;
+pub mod position;
 pub mod shape;
 
 use self::grid::Grid;
@@ -28,7 +30,8 @@ impl Fit {
     /// The side² modules.
     pub fn modules(&self) -> Vec<u8> {
         let mode = bits_of(&mode_words(self.shape, self.data.len()), 4);
-        let grid = Grid::drawn(self.shape, &mode, &data_bits(self.shape, &self.data));
+        let block = block(self.shape.word_size(), &self.data, self.check_words());
+        let grid = Grid::drawn(self.shape, &mode, &block_bits(self.shape, &block));
         assert!(grid.complete(), "every module of a symbol is drawn");
         grid.modules
     }
@@ -58,13 +61,14 @@ pub fn fit(message: &[u8], percent: u32) -> Result<Fit, u32> {
     Err(3)
 }
 
-/// "Compact: L − 1 in 2 bits, D − 1 in 6, then 5 check words. Full: 5 and 11 bits, then 6
-/// check words."
+/// Bits of D, words of L and D, and check words: "Compact: L − 1 in 2 bits, D − 1 in 6, then
+/// 5 check words. Full: 5 and 11 bits, then 6 check words."
+pub fn mode_sizes(family: Family) -> (usize, usize, usize) {
+    family.either((6, 2, 5), (11, 4, 6))
+}
+
 pub fn mode_words(shape: Shape, data_words: usize) -> Vec<u16> {
-    let (length_bits, words, check_words) = match shape.family {
-        Family::Compact => (6, 2, 5),
-        Family::Full => (11, 4, 6),
-    };
+    let (length_bits, words, check_words) = mode_sizes(shape.family);
     let mode = (shape.layers - 1) << length_bits | (data_words - 1);
     let data: Vec<u16> = (0..words)
         .rev()
@@ -75,11 +79,10 @@ pub fn mode_words(shape: Shape, data_words: usize) -> Vec<u16> {
 
 /// "The first Cb mod B bits are 0 …; then data words, then check words, each higher bit
 /// first."
-pub fn data_bits(shape: Shape, data: &[u16]) -> Vec<bool> {
+pub fn block_bits(shape: Shape, block: &[u16]) -> Vec<bool> {
     let size = shape.word_size();
-    let words = block(size, data, shape.words() - data.len());
     let mut bits = vec![false; shape.bits() % size as usize];
-    bits.extend(bits_of(&words, size));
+    bits.extend(bits_of(block, size));
     bits
 }
 
@@ -89,7 +92,7 @@ pub fn block(size: u32, data: &[u16], check_words: usize) -> Vec<u16> {
     Maker::new(field, check_words).block(data)
 }
 
-fn bits_of(words: &[u16], size: u32) -> Vec<bool> {
+pub fn bits_of(words: &[u16], size: u32) -> Vec<bool> {
     let bits = |&word: &u16| (0..size).rev().map(move |place| word >> place & 1 == 1);
     words.iter().flat_map(bits).collect()
 }

@@ -13,7 +13,7 @@ use Rattle.orientation.specs.Sides.{isSide}
 use Rattle.orientation.specs.Family.{looksFull}
 use Rattle.orientation.specs.Position.{position}
 use Rattle.decoder.specs.declared.Decoded.{Decoded}
-use Rattle.decoder.specs.Stages.{modulesRead, modeIn, saidLayers, saidWords, lawfulMode, blockIn, unreadWords, wrongWords}
+use Rattle.decoder.specs.Stages.{lawfulModules, modeIn, saidLayers, saidWords, lawfulMode, blockIn, unreadWords, wrongWords}
 
 pub record Result : Type 0 where
   pub answer : Decoded
@@ -78,4 +78,4 @@ unfoldable pub decodeOf : List ℕ → ℕ → List ℕ → Result
 decodeOf g n buffer =
     cond (not (isSide n)) (refused 11 buffer)
     (cond (not (eqb (length g) (n * n))) (refused 12 buffer)
-    (cond (not (modulesRead g)) (refused 13 buffer) (readGrid g buffer n)))
+    (cond (not (lawfulModules g)) (refused 13 buffer) (readGrid g buffer n)))

@@ -15,7 +15,7 @@ use Rattle.orientation.specs.Sides.{isSide}
 use Rattle.orientation.specs.Family.{looksFull}
 use Rattle.orientation.specs.Position.{position, positionNumber}
 use Rattle.orientation.specs.PositionLaws.{found-best}
-use Rattle.decoder.specs.Stages.{modulesRead, modeIn}
+use Rattle.decoder.specs.Stages.{lawfulModules, modeIn}
 use Rattle.decoder.specs.Decode.{Result, refused, readMode, readIn, readGrid, decodeOf}
 
 module _ (g buffer : List ℕ) (n : ℕ) {f : Bool} (family : f ≡ looksFull n g) {t : ℕ} (is : t ≡ positionNumber (position f n g)) where
@@ -46,10 +46,10 @@ module _ (g buffer : List ℕ) (n : ℕ) where
   unfolding decodeOf
   length-refused e h = rw (e, ne-eqb (length g) (n * n) h) refl
 
-  pub module-refused : isSide n ≡ true → length g ≡ n * n → modulesRead g ≡ false → decodeOf g n buffer ≡ refused 13 buffer
+  pub module-refused : isSide n ≡ true → length g ≡ n * n → lawfulModules g ≡ false → decodeOf g n buffer ≡ refused 13 buffer
   unfolding decodeOf
   module-refused e h m = rw (e, eq-eqb (length g) (n * n) h, m) refl
 
-  pub grid-taken : isSide n ≡ true → length g ≡ n * n → modulesRead g ≡ true → decodeOf g n buffer ≡ readGrid g buffer n
+  pub grid-taken : isSide n ≡ true → length g ≡ n * n → lawfulModules g ≡ true → decodeOf g n buffer ≡ readGrid g buffer n
   unfolding decodeOf
   grid-taken e h m = rw (e, eq-eqb (length g) (n * n) h, m) refl

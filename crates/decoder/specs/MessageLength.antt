@@ -10,10 +10,9 @@ use lib.ListN.{length, getD, drop, length-append}
 use Rattle.list_laws.specs.Range.{all}
 use Rattle.stream.specs.declared.items.Found.{Found}
 use Rattle.stream.specs.declared.items.Found.the-variants.{Whole, Fault}
-use Rattle.stream.specs.Below.{Bits, below-append}
-use Rattle.stream.specs.Bits.{bits, bits-are-bits}
-use Rattle.stream.specs.Stuffing.{flat, wordBits, unstuffFrom, unstuff}
-use Rattle.stream.specs.StuffingLaws.{unstuff-length}
+use Rattle.stream.specs.Below.{Bits}
+use Rattle.stream.specs.Stuffing.{flat, unstuffFrom, unstuff}
+use Rattle.stream.specs.StuffingLaws.{unstuff-is-bits, unstuff-length}
 use Rattle.stream.specs.Items as items
 use Rattle.stream.specs.Items.{Reading, adds, extra, setAfter, prepend, proceed, itemAt, stops, readFrom, readItems, judge}
 use Rattle.stream_reader.specs.Scan.{Sound, item-sound, length-adds}
@@ -49,19 +48,6 @@ read-most B (b ∷ l) x zero at s five = stop (stops B (b ∷ l)) (read-most B l
         (cond t (items.message []) (proceed (itemAt s (b ∷ l)) at s (b ∷ l) (λ u t. readFrom B (u - 1) (at + 1) t l)))
     stop true ih = omega arith
     stop false ih = on (itemAt s (b ∷ l)) (item-sound s five (b ∷ l) x) ih
-
-word-is-bits : (h w : ℕ) → Bits (wordBits h w)
-unfolding wordBits
-word-is-bits h w = go (flat h (w / 2))
-  where
-    go : (t : Bool) → Bits (cond t (bits h (w / 2)) (bits (suc h) w))
-    go true = bits-are-bits h (w / 2)
-    go false = bits-are-bits (suc h) w
-
-unstuff-is-bits : (h : ℕ) (words : List ℕ) → Bits (unstuffFrom h words)
-unfolding unstuffFrom
-unstuff-is-bits h [] = tt
-unstuff-is-bits h (w ∷ ws) = below-append 2 (wordBits h w) (unstuffFrom h ws) (word-is-bits h w) (unstuff-is-bits h ws)
 
 module _ (B : ℕ) (words text : List ℕ) where
   pub message-length : judge B words ≡ items.message text → length text ≤ length (unstuff B words)

@@ -18,8 +18,8 @@ use Rattle.symbol.specs.GridWords.{unread, modeModule, blockModule, modeWord, b
 use Rattle.encoder.specs.ModeMessage.{modeChecks}
 
 -- not 13: no module is above 2
-unfoldable pub modulesRead : List ℕ → Bool
-modulesRead g = all (length g) (λ k. leb (getD g k 0) 2)
+unfoldable pub lawfulModules : List ℕ → Bool
+lawfulModules g = all (length g) (λ k. leb (getD g k 0) 2)
 
 -- Step 3: "Mode words, then data words, go to the corrector. A word with an unread module is marked"
 unfoldable pub modeWordsIn : Bool → ℕ → ℕ → List ℕ → List ℕ

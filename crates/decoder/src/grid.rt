@@ -108,7 +108,7 @@ pub fn decode_in(
         if grid.len() != n * n {
             return delivering::refused(12);
         }
-        if modules::all_read(grid) {
+        if modules::all_lawful(grid) {
             return read_grid(
                 upright,
                 mode_words,

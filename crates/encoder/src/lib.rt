@@ -48,12 +48,7 @@ pub fn encode(message: &[u8], percent: u32, grid: &mut [u8]) -> Encoded
     }
     let number = answer.shape as usize;
     let layers = shapes::layers_of(number);
-    message_symbol::draw_message(
-        message,
-        4 < number,
-        layers,
-        answer.data_words as usize,
-        grid,
-    );
+    let count = answer.data_words as usize;
+    message_symbol::draw_message(message, 4 < number, layers, count, grid);
     answer
 }

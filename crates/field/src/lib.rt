@@ -1,5 +1,5 @@
 // Products, powers and inverses of words, by tables that the caller lends. `size` names the word size for the contracts alone: what the
-// code needs of it is in the tables' length. Request 3/12 reworks `times_power`, the one place where a product is formed.
+// code needs of it is in the tables' length. `times_power` is the one place where a product is formed.
 ghost use mathlib.Core.Path.{_≡_};
 ghost use Prim.Native.Nat.{_<_, _^_};
 ghost use Rattle.finite_field.specs.Field.{sizeOf, bits, Word, product, power, inverse};

@@ -6,7 +6,7 @@ ghost use lib.ListN.{length, getD};
 ghost use Rattle.list_laws.specs.Range.{all};
 
 // Whether each module has one of the three values.
-pub fn all_read(grid: &[u8]) -> bool
+pub fn all_lawful(grid: &[u8]) -> bool
     ensures { λ r. ⌜ r ≡ all (length (now (grid .entry))) (λ (k : ℕ). leb (getD (now (grid .entry)) k 0) 2) ⌝ }
 {
     let mut k = 0;

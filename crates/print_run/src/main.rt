@@ -24,51 +24,10 @@ const BLOCK_RECORDS: usize = 1024;
 // A loop that is proved has to end, and nothing says that the input does. No run has so many records.
 const MOST_RECORDS: usize = 1 << 63;
 
-// What was read: how many bytes, and whether a read failed.
-pub struct Filled {
-    pub length: usize,
-    pub failed: bool,
-}
-
 // What was listed: the lines of how many bytes, and whether more may follow.
 pub struct Listed {
     pub length: usize,
     pub more: bool,
-}
-
-fn read_once(fd: i32, rest: &mut [u8]) -> Filled
-    ensures { λ r. ⌜ r .length ≤ length (now (rest .exit)) ⌝ }
-{
-    let got = libc::read(fd, rest);
-    Filled {
-        length: io::count(got, rest),
-        failed: got < 0,
-    }
-}
-
-// Reads until the block is full, the input ends or a read fails. So only the last block of a run can end inside a record, wherever the
-// reads end.
-fn fill(fd: i32, block: &mut [u8]) -> Filled
-    ensures { λ r. ⌜ r .length ≤ length (now (block .exit)) ⌝ }
-{
-    let mut at = 0;
-    while at < block.len() {
-        let part = read_once(fd, &mut block[at..]);
-        if part.failed {
-            return Filled {
-                length: at,
-                failed: true,
-            };
-        }
-        if part.length == 0 {
-            break;
-        }
-        at += part.length;
-    }
-    Filled {
-        length: at,
-        failed: false,
-    }
 }
 
 // Reads a block and writes its lines, numbered from `first`: the front of `lines`. Where a read fails, nothing of the block is listed.
@@ -77,7 +36,7 @@ fn list_block(fd: i32, name: &[u8], first: usize, block: &mut [u8], lines: &mut 
     ensures { λ r. ⌜ now (lines .exit) ≡ atFront (linesFrom first (take (r .length) (now (block .exit)))) (now (lines .entry)) ⌝ }
     ensures { λ r. ⌜ (r .more ≡ true → r .length ≡ 32768) ⌝ }
 {
-    let filled = fill(fd, block);
+    let filled = input::fill(fd, block);
     if filled.failed {
         os::fail(name);
         return Listed {

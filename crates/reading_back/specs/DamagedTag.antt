@@ -40,7 +40,7 @@ use Rattle.encoder.specs.ModeMessage.{modeData, modeChecks, modeWords}
 use Rattle.encoder.specs.ModeLaws.{length-mode-words, mode-valid}
 use Rattle.encoder.specs.Encode.{block}
 use Rattle.encoder.specs.Fitting.{Fitting, size-is, block-valid, length-block}
-use Rattle.decoder.specs.Stages.{modulesRead, modeWordsIn, modeMarksIn, modeIn, saidLayers, saidWords, lawfulMode, blockWordsIn, blockMarksIn, blockIn, unreadWords, wrongWords}
+use Rattle.decoder.specs.Stages.{lawfulModules, modeWordsIn, modeMarksIn, modeIn, saidLayers, saidWords, lawfulMode, blockWordsIn, blockMarksIn, blockIn, unreadWords, wrongWords}
 use Rattle.decoder.specs.Decode.{Result, refused, delivered, deliver, readStream, readBlock, readShape, readMode, readIn, readGrid, decodeOf}
 
 -- "within the limit if 2r + e is at most its K, with e of its words marked and r of the rest unlike the made words"
@@ -189,7 +189,7 @@ module _ (message : List ℕ) (x : Bytes message) (f : Bool) (L D : ℕ) (fit : 
         (space : length message ≤ length buffer) where
       -- no number before 14
       taken : decodeOf g n buffer ≡ readGrid g buffer n
-      unfolding decodeOf modulesRead
+      unfolding decodeOf lawfulModules
       taken =
           rw (
             side-of-shape f L (fit .shaped),

@@ -9,7 +9,7 @@ ghost use Rattle.round_trip.specs.Unchanged.{ReadsUnchanged};
 
 pub mod shown;
 
-// The same in a position below 8, with room for two grids of any shape.
+// The tag made, put in a position below 8, changed and read, with room for two grids of any shape.
 fn trip_in(
     made: &mut [u8],
     tag: &mut [u8],

@@ -10,8 +10,8 @@ use lib.ListN.{length, getD, replicate, length-append, length-replicate}
 use borrow.Author.Tests.{ne-eqb}
 use Rattle.stream.specs.declared.stuffing.Put.{Put}
 use Rattle.stream.specs.declared.stuffing.Put.the-variants.{Part, Word}
-use Rattle.stream.specs.Below.{Bits}
-use Rattle.stream.specs.Bits.{bits, length-bits}
+use Rattle.stream.specs.Below.{Bits, below-append}
+use Rattle.stream.specs.Bits.{bits, length-bits, bits-are-bits}
 use Rattle.stream.specs.Stuffing.{flat, put, after, fill, finish, stuffFrom, stuff, wordBits, unstuffFrom, unstuff}
 use Rattle.stream.specs.PutLaws.{State, Codeword, Codewords, Fits, put-fits, part-grows, start}
 
@@ -118,6 +118,20 @@ word-length h w = go (flat h (w / 2))
     go : (t : Bool) → (h ≤ length (cond t (bits h (w / 2)) (bits (suc h) w))) × (length (cond t (bits h (w / 2)) (bits (suc h) w)) ≤ suc h)
     go true = omega (arith, length-bits h (w / 2))
     go false = omega (arith, length-bits (suc h) w)
+
+-- unstuffed words are 0s and 1s
+word-is-bits : (h w : ℕ) → Bits (wordBits h w)
+unfolding wordBits
+word-is-bits h w = go (flat h (w / 2))
+  where
+    go : (t : Bool) → Bits (cond t (bits h (w / 2)) (bits (suc h) w))
+    go true = bits-are-bits h (w / 2)
+    go false = bits-are-bits (suc h) w
+
+pub unstuff-is-bits : (h : ℕ) (words : List ℕ) → Bits (unstuffFrom h words)
+unfolding unstuffFrom
+unstuff-is-bits h [] = tt
+unstuff-is-bits h (w ∷ ws) = below-append 2 (wordBits h w) (unstuffFrom h ws) (word-is-bits h w) (unstuff-is-bits h ws)
 
 -- D words hold from D(B − 1) to DB stream bits
 pub unstuff-length : (h : ℕ) (ws : List ℕ) → (length ws * h ≤ length (unstuffFrom h ws)) × (length (unstuffFrom h ws) ≤ length ws * suc h)

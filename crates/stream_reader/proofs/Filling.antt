@@ -13,12 +13,12 @@ use Rattle.stream.specs.declared.items.Item.{Item}
 use Rattle.stream.specs.declared.items.Found.{Found}
 use Rattle.stream.specs.declared.items.Found.the-variants.{Whole, Fault}
 use Rattle.stream.specs.Stuffing.{flat, unstuff, unstuffFrom}
+use Rattle.stream.specs.StuffingLaws.{unstuff-is-bits}
 use Rattle.stream.specs.Items.{Reading, message, refused, prepend, adds, yields, extra, setAfter, stops, itemAt, readFrom, readItems, judge}
 use Rattle.stream.proofs.items.Found.{the-type}
 use Rattle.stream_reader.specs.Places.{rest, Stands}
 use Rattle.stream_reader.specs.Scan.{Scanned, length-adds, scan-item, scan-fault, scan-stop}
 use Rattle.stream_reader.specs.Written.{Room, written}
-use Rattle.stream_reader.proofs.WordParts.{unstuff-is-bits}
 
 -- words whose message has room are not refused by 18
 pub judged : (B : ℕ) (words b : List ℕ) → Room (judge B words) b → judge B words ≡ readItems B (unstuff B words)

@@ -13,11 +13,11 @@ use Rattle.stream.specs.declared.items.Found.{Found}
 use Rattle.stream.specs.declared.items.Found.the-variants.{Whole, Fault}
 use Rattle.stream.specs.declared.items.Verdict.the-variants.{Message, Refused}
 use Rattle.stream.specs.Stuffing.{unstuffFrom}
+use Rattle.stream.specs.StuffingLaws.{unstuff-is-bits}
 use Rattle.stream.specs.Items.{adds, yields, extra, setAfter, stops, itemAt, readItems, verdictOf}
 use Rattle.stream.proofs.items.Found.{the-type}
 use Rattle.stream_reader.specs.Places.{rest, Stands}
 use Rattle.stream_reader.specs.Scan.{Counted, counted-more, length-adds, scan-item, scan-fault, scan-stop}
-use Rattle.stream_reader.proofs.WordParts.{unstuff-is-bits}
 
 module _ (h : ℕ) (words : List ℕ) (at w j : ℕ) (s : Stands h words at w j) where
   pub bits-left : (total : ℕ) → total ≡ length (unstuffFrom h words) → total - at ≡ length (rest h words w j)

@@ -11,9 +11,10 @@ use lib.ListN.{length, getD, take, drop, length-take, length-drop}
 use lib.Pow.{pow-mono, shl-lt}
 use lib.Seq.{drop-drop}
 use borrow.Author.Tests.{eq-eqb, ne-eqb}
-use Rattle.stream.specs.Below.{Bits, below-append, below-take, below-drop}
+use Rattle.stream.specs.Below.{Bits, below-take, below-drop}
 use Rattle.stream.specs.Bits.{bits, value-below, bits-are-bits}
 use Rattle.stream.specs.Stuffing.{flat, wordBits, unstuffFrom}
+use Rattle.stream.specs.StuffingLaws.{unstuff-is-bits}
 use Rattle.stream_reader.specs.Places.{wordLength, rest, rest-next, rest-field, some-left, Taken, taken-more}
 
 pub one-shl : (k : ℕ) → k < 64 → 1 * 2 ^ k % 18446744073709551616 ≡ 2 ^ k
@@ -33,23 +34,10 @@ module _ (h x : ℕ) where
   length-whole z e =
       add-one h ∙ sym (ap₂ (λ s t. cond (s || t) h (suc h)) (ne-eqb (x / 2) 0 z) (ne-eqb (x / 2) (2 ^ h - 1) e))
 
-  word-is-bits : Bits (wordBits h x)
-  unfolding wordBits
-  word-is-bits = go (flat h (x / 2))
-    where
-      go : (t : Bool) → Bits (cond t (bits h (x / 2)) (bits (suc h) x))
-      go true = bits-are-bits h (x / 2)
-      go false = bits-are-bits (suc h) x
-
 module _ (h : ℕ) where
-  pub unstuff-is-bits : (words : List ℕ) → Bits (unstuffFrom h words)
-  unfolding unstuffFrom
-  unstuff-is-bits [] = tt
-  unstuff-is-bits (w ∷ ws) = below-append 2 (wordBits h w) (unstuffFrom h ws) (word-is-bits h w) (unstuff-is-bits ws)
-
   pub rest-is-bits : (words : List ℕ) (w j : ℕ) → Bits (rest h words w j)
   unfolding rest
-  rest-is-bits words w j = below-drop 2 j (unstuffFrom h (drop w words)) (unstuff-is-bits (drop w words))
+  rest-is-bits words w j = below-drop 2 j (unstuffFrom h (drop w words)) (unstuff-is-bits h (drop w words))
 
   module _ (words : List ℕ) (w j : ℕ) where
     -- n bits on

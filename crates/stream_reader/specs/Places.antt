@@ -170,6 +170,13 @@ taken-more {l} {l′} {l″} {i} {v} n y t e =
     next : drop i l ≡ bits n y ++ l″
     next = sym (t .left) ∙ e
 
+-- what reading an item in a set asks: words of a size that 16 bits hold, and the count of the bits left from bit j of word w on
+pub record Ready (words : List ℕ) (size w j left set : ℕ) : Type 0 where
+  pub least : 1 ≤ size
+  pub most : size ≤ 16
+  pub known : set < 5
+  pub counted : left ≡ length (rest (size - 1) words w j)
+
 -- bit j of word w is stream bit `at`
 pub record Stands (h : ℕ) (words : List ℕ) (at w j : ℕ) : Type 0 where
   pub within : at ≤ length (unstuffFrom h words)

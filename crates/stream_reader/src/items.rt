@@ -1,11 +1,11 @@
 // The reader's items.
 ghost use mathlib.Core.Path.{_≡_};
 ghost use mathlib.Core.List.{List};
-ghost use Prim.Native.Nat.{ℕ, _+_, _*_, _≤_, _<_};
+ghost use Prim.Native.Nat.{ℕ, _+_, _*_, _-_, _≤_, _<_};
 ghost use lib.ListN.{length, drop};
 ghost use Rattle.stream.specs.declared.codes.Entry.the-variants.{Shift};
 ghost use Rattle.stream.specs.Items as spec;
-ghost use Rattle.stream_reader.specs.Places.{rest};
+ghost use Rattle.stream_reader.specs.Places.{rest, Ready};
 use crate::reading;
 use crate::reading::Place;
 use stream::codes;
@@ -73,11 +73,11 @@ fn count_item(words: &[u16], h: usize, place: Place, left: usize, used: usize) -
 }
 
 // The item at a place, read in a set, where so many bits are left.
-pub fn item_at(words: &[u16], h: usize, place: Place, left: usize, set: usize) -> Found
-    requires { ⌜ h < 16 ⌝ ∗ ⌜ set < 5 ⌝ }
-    requires { ⌜ left ≡ length (rest h (now words) (place .word) (place .bit)) ⌝ }
-    ensures { λ r. ⌜ r ≡ spec.itemAt set (rest h (now (words .entry)) (place .word) (place .bit)) ⌝ }
+pub fn item_at(words: &[u16], word_size: usize, place: Place, left: usize, set: usize) -> Found
+    requires { ⌜ Ready (now words) «word_size» (place .word) (place .bit) left set ⌝ }
+    ensures { λ r. ⌜ r ≡ spec.itemAt set (rest («word_size» - 1) (now (words .entry)) (place .word) (place .bit)) ⌝ }
 {
+    let h = word_size - 1;
     let width = codes::width_of(set);
     if left < width {
         return Found::Fault(20);

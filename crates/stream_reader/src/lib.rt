@@ -2,3 +2,4 @@
 pub mod items;
 pub mod message;
 pub mod reading;
+pub mod view;

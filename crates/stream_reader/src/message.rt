@@ -13,6 +13,7 @@ ghost use Rattle.stream_reader.specs.Written.{Room, written};
 use crate::items;
 use crate::reading;
 use crate::reading::Place;
+use crate::view;
 use stream::items::Found;
 use stream::items::Item;
 use stream::items::Verdict;
@@ -65,7 +66,7 @@ fn read_items(words: &[u16], word_size: usize) -> Verdict
     let mut set: usize = 0;
     let mut n: usize = 0;
     while !items::stops_at(words, h, place, total - at, word_size) {
-        let found = items::item_at(words, h, place, total - at, set);
+        let found = view::read_item(words, word_size, place, total - at, set);
         let Found::Whole(item, used) = found else {
             return Verdict::Refused(fault_of(found), at);
         };
@@ -139,7 +140,8 @@ pub fn write_message(words: &[u16], word_size: usize, message: &mut [u8])
     let mut set: usize = 0;
     let mut n: usize = 0;
     while !items::stops_at(words, h, place, total - at, word_size) {
-        let Found::Whole(item, used) = items::item_at(words, h, place, total - at, set) else {
+        let Found::Whole(item, used) = view::read_item(words, word_size, place, total - at, set)
+        else {
             return;
         };
         let more = items::extra_of(item);

@@ -3,14 +3,9 @@
 use super::calls::{encoded, with_library, Due, Encode};
 use crate::cases::kinds::mixed;
 use crate::symbol::{fit, shape};
+use crate::times::Times;
 use std::hint::black_box;
 use std::process::ExitCode;
-use std::time::Instant;
-
-const RUNS: usize = 11;
-
-/// About as long as one run may take, in seconds.
-const A_RUN: f64 = 0.01;
 
 pub fn run() -> ExitCode {
     with_library(|encode| {
@@ -47,32 +42,14 @@ fn row(encode: Encode, title: &str, message: &[u8], percent: u32) -> bool {
     let answer = due.answer(usize::MAX);
     let mut grid = vec![0; due.modules.len()];
     let mut right = true;
-    let mut once = || right &= encoded(encode, black_box(message), percent, &mut grid) == answer;
-    let rounds = rounds(&mut once);
-    let times: Vec<f64> = (0..RUNS).map(|_| seconds(rounds, &mut once)).collect();
+    let times =
+        Times::of(|| right &= encoded(encode, black_box(message), percent, &mut grid) == answer);
     right &= grid == due.modules;
     let name = shape::every()
         .find(|shape| shape.number() == answer.shape as usize)
         .map_or(String::new(), |shape| shape.name());
     let (len, data, checks) = (message.len(), answer.data_words, answer.check_words);
     println!("{title}: {len} bytes, {percent} percent, {name}, D {data}, K {checks}");
-    let fast = times.iter().copied().fold(f64::INFINITY, f64::min) * 1e6;
-    let slow = times.iter().copied().fold(0.0, f64::max) * 1e6;
-    println!("  fastest {fast:.2}, slowest {slow:.2} µs a symbol ({RUNS} runs)");
+    println!("  {}", times.told("a symbol"));
     right
-}
-
-/// How many calls fill a run.
-fn rounds(once: &mut impl FnMut()) -> usize {
-    let one = seconds(1, once);
-    (A_RUN / one).clamp(1.0, 10_000.0) as usize
-}
-
-/// Seconds a call, over so many calls.
-fn seconds(rounds: usize, once: &mut impl FnMut()) -> f64 {
-    let start = Instant::now();
-    for _ in 0..rounds {
-        once();
-    }
-    start.elapsed().as_secs_f64() / rounds as f64
 }

@@ -1,7 +1,9 @@
 //! The calls of the stream, with every lent buffer inside a larger one.
 
 use super::read::Reading;
-use crate::guard::{mark_pattern, untouched, word_pattern, Guarded};
+use crate::guard::{
+    mark_pattern, trespasses, unlike, untouched, untouched_bytes, word_pattern, Guarded,
+};
 
 #[repr(C)]
 #[derive(Clone, Copy, PartialEq, Debug)]
@@ -44,36 +46,6 @@ pub fn judge(words: &[u16], size: u32) -> Judged {
 pub fn message(words: &[u16], size: u32, message: &mut [u8]) {
     let (from, to) = (words.as_ptr(), message.as_mut_ptr());
     unsafe { stream_message(from, words.len(), size, to, message.len()) }
-}
-
-/// What stands in a message buffer before a call.
-fn untouched_bytes(len: usize, turn: usize) -> Vec<u8> {
-    (0..len)
-        .map(|i| (i as u8).wrapping_mul(0x4F) ^ (0x96 + turn as u8 % 9))
-        .collect()
-}
-
-/// Lists a buffer whose guards, or an input whose values, are no longer what they were.
-fn trespasses<T: Copy + PartialEq>(
-    name: &str,
-    lent: &Guarded<T>,
-    input: Option<&[T]>,
-) -> Vec<String> {
-    let mut list = Vec::new();
-    if !lent.guards_intact() {
-        list.push(format!("what lies beside `{name}` was changed"));
-    }
-    if input.is_some_and(|input| lent.inside() != input) {
-        list.push(format!("the input `{name}` was changed"));
-    }
-    list
-}
-
-/// The first place at which a buffer is not as due.
-fn unlike<T: Copy + PartialEq + std::fmt::Debug>(got: &[T], due: &[T]) -> Option<String> {
-    let place = got.iter().zip(due).position(|(got, due)| got != due)?;
-    let (got, due) = (got[place], due[place]);
-    Some(format!("at place {place} stands {got:?}, due {due:?}"))
 }
 
 /// `stream_count` on any message.

@@ -1,5 +1,6 @@
 //! "Data places": the modules that hold the bits of the block, in the order of the bits.
 
+use super::core::Offset;
 use super::shape::{Family, Shape};
 
 /// A row and a column, counted from the top left.
@@ -11,6 +12,15 @@ pub fn data(shape: Shape) -> Vec<Place> {
     let layers = (0..shape.layers).flat_map(|t| layer(shape, left.len(), t));
     layers
         .map(|(row, column)| (left[row], left[column]))
+        .collect()
+}
+
+/// The same from the centre module.
+pub fn offsets(shape: Shape) -> Vec<Offset> {
+    let centre = shape.side() as i32 / 2;
+    let places = data(shape).into_iter();
+    places
+        .map(|(row, column)| (column as i32 - centre, row as i32 - centre))
         .collect()
 }
 

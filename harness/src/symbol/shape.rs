@@ -8,6 +8,16 @@ pub enum Family {
 
 use Family::{Compact, Full};
 
+impl Family {
+    /// The first of two things for the compact family, the second for the full one.
+    pub fn either<T>(self, compact: T, full: T) -> T {
+        match self {
+            Compact => compact,
+            Full => full,
+        }
+    }
+}
+
 #[derive(Clone, Copy, PartialEq, Eq, Debug)]
 pub struct Shape {
     pub family: Family,
@@ -33,10 +43,7 @@ impl Shape {
 
     /// The first of two numbers for a compact shape, the second for a full one.
     pub fn either<T>(self, compact: T, full: T) -> T {
-        match self.family {
-            Compact => compact,
-            Full => full,
-        }
+        self.family.either(compact, full)
     }
 
     /// "numbered 1 to 4 for C1 to C4, 5 to 36 for F1 to F32"

@@ -69,8 +69,8 @@ cast-number c = search needs
 layers-of-requires : tie.Need-layers-of-requires
 layers-of-requires c κs = search needs
 
-cast-draw-message : tie.Need-cast-draw-message
-cast-draw-message c = search needs
+cast-count : tie.Need-cast-count
+cast-count c = search needs
 
 -- the message is drawn in the shape that the answer names
 abbrev asked : tie.After-draw-message-arg → tie.After-plan
@@ -123,7 +123,7 @@ encode-spec =
     returns-2
     cast-number
     layers-of-requires
-    cast-draw-message
+    cast-count
     draw-message-requires
     same-length
     returns-3)

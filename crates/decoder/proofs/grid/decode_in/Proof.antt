@@ -7,7 +7,7 @@ use Prim.Native.Nat.{ℕ, _*_, _<_, _≤_}
 use native.Mathlib.Omega.{arith}
 use lib.ListN.{length}
 use Rattle.orientation.specs.Sides.{isSide, side-range}
-use Rattle.decoder.specs.Stages.{modulesRead}
+use Rattle.decoder.specs.Stages.{lawfulModules}
 use Rattle.decoder.specs.Rooms.{area-most}
 use Rattle.decoder.specs.GridLaws.{side-refused, length-refused, module-refused, grid-taken}
 use Rattle.decoder.proofs.grid.decode_in.Statement.{statement}
@@ -36,8 +36,8 @@ returns c =
     let e = length-refused (a .grid .now) (a .message .now) (a .n) (sided t) (c .before .if2 .taken) in
     (c .refused .ensures ∙ sym (ap (λ r. r .answer) e), sym (ap (λ r. r .message) e))
 
-all-read-requires : tie.Need-all-read-requires
-all-read-requires c κs = search needs
+all-lawful-requires : tie.Need-all-lawful-requires
+all-lawful-requires c κs = search needs
 
 read-grid-requires : tie.Need-read-grid-requires
 read-grid-requires c κs =
@@ -69,7 +69,7 @@ same-length-7 : tie.Need-same-length-7
 same-length-7 c = search needs
 
 returns-2 : tie.Need-returns-2
-unfolding modulesRead
+unfolding lawfulModules
 returns-2 c =
     let g = c .before .before .before .before .before .before .before .before .before .before .before .before .before .before in
     let r = g .before .before .before .before .before .before .before .before .before in
@@ -77,20 +77,20 @@ returns-2 c =
     let a = start (t .before) .args in
     let e =
     grid-taken (a .grid .now) (a .message .now) (a .n) (sided t) (r .before .if2 .left)
-    (sym (r .all-read .ensures) ∙ g .before .before .before .before .before .before .before .before .if3 .taken) in
+    (sym (r .all-lawful .ensures) ∙ g .before .before .before .before .before .before .before .before .if3 .taken) in
     (g .read-grid .ensures .0 ∙ sym (ap (λ r. r .answer) e), g .read-grid .ensures .1 ∙ sym (ap (λ r. r .message) e))
 
 refused-requires-2 : tie.Need-refused-requires-2
 refused-requires-2 c κs = search needs
 
 returns-3 : tie.Need-returns-3
-unfolding modulesRead
+unfolding lawfulModules
 returns-3 c =
     let r = c .before .before in
     let t = r .before .before in
     let a = start (t .before) .args in
     let e =
-    module-refused (a .grid .now) (a .message .now) (a .n) (sided t) (r .before .if2 .left) (sym (r .all-read .ensures) ∙ c .before .if3 .left) in
+    module-refused (a .grid .now) (a .message .now) (a .n) (sided t) (r .before .if2 .left) (sym (r .all-lawful .ensures) ∙ c .before .if3 .left) in
     (c .refused2 .ensures ∙ sym (ap (λ r. r .answer) e), sym (ap (λ r. r .message) e))
 
 refused-requires-3 : tie.Need-refused-requires-3
@@ -111,7 +111,7 @@ decode-in-spec =
     mul-if2
     refused-requires
     returns
-    all-read-requires
+    all-lawful-requires
     read-grid-requires
     same-length
     same-length-2

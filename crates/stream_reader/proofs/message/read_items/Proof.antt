@@ -11,9 +11,9 @@ use lib.ListN.{length}
 use Rattle.stream.specs.declared.items.Item.{Item}
 use Rattle.stream.specs.Items.{yields, extra, setAfter, stops}
 use Rattle.stream.specs.Stuffing.{unstuff, unstuffFrom}
+use Rattle.stream.specs.StuffingLaws.{unstuff-is-bits}
 use Rattle.stream_reader.specs.Places.{rest, Stands, stands-start}
 use Rattle.stream_reader.specs.Scan.{Counted, scan-start}
-use Rattle.stream_reader.proofs.WordParts.{unstuff-is-bits}
 use Rattle.stream_reader.proofs.Passes.{bits-left, stands-further, counted-item, counted-fault, counted-stop}
 use Rattle.stream_reader.proofs.message.read_items.Statement.{statement}
 use Rattle.stream_reader.proofs.message.read_items.Tie as tie
@@ -75,7 +75,7 @@ module _ (c : tie.After-found Inv-loop μ-loop) where
   turn x s m =
       let z = head .loop in
       counted-item (B head - 1) (words head) (z .at) (z .place .word) (z .place .bit) (z .inv .1) (B head) (some head) (start head .pre .1 .0)
-      (z .set) (z .n) (z .inv .0) item used x s m (live (c .before .before .before)) (sym (c .before .before .item-at .ensures) ∙ c .found .given .1)
+      (z .set) (z .n) (z .inv .0) item used x s m (live (c .before .before .before)) (sym (c .before .before .read-item .ensures) ∙ c .found .given .1)
 
   bounds : (1 ≤ used) × (head .loop .at + (used + extra item) ≤ length (stream head)) × (head .loop .n + yields item ≤ length (stream head))
   bounds =
@@ -104,11 +104,13 @@ sub-stops-at c = omega (arith, total c, c .loop .inv .1 .within)
 stops-at-requires : tie.Need-stops-at-requires Inv-loop μ-loop
 stops-at-requires c κs = (low c, (omega arith, length-left c))
 
-sub-item-at : tie.Need-sub-item-at Inv-loop μ-loop
-sub-item-at c = let l = c .before .before in omega (arith, total l, l .loop .inv .1 .within)
+sub-read-item : tie.Need-sub-read-item Inv-loop μ-loop
+sub-read-item c = let l = c .before .before in omega (arith, total l, l .loop .inv .1 .within)
 
-item-at-requires : tie.Need-item-at-requires Inv-loop μ-loop
-item-at-requires c κs = let l = c .before .before in (low l, (l .loop .inv .0 .read .set, length-left l))
+read-item-requires : tie.Need-read-item-requires Inv-loop μ-loop
+read-item-requires c κs =
+    let l = c .before .before in
+    record { least = some l; most = omega (arith, start l .pre .1 .0); known = l .loop .inv .0 .read .set; counted = length-left l }
 
 enum-known-found : tie.Need-enum-known-found Inv-loop μ-loop
 enum-known-found c = search needs
@@ -126,8 +128,8 @@ returns c =
     let z = l .loop in
     let seen = c .before .before .before in
     counted-fault (B l - 1) (words l) (z .at) (z .place .word) (z .place .bit) (z .inv .1) (B l) (some l) (start l .pre .1 .0) (z .set) (z .n)
-    (z .inv .0) (seen .item-at .result) (c .fault-of .result) (c .before .before .match .keys2) (c .fault-of .ensures) (live (seen .before))
-    (seen .item-at .ensures)
+    (z .inv .0) (seen .read-item .result) (c .fault-of .result) (c .before .before .match .keys2) (c .fault-of .ensures) (live (seen .before))
+    (seen .read-item .ensures)
 
 extra-of-requires : tie.Need-extra-of-requires Inv-loop μ-loop
 extra-of-requires c κs = let i = c .before in omega (arith, head i .before .stream-length .ensures, bounds i)
@@ -199,8 +201,8 @@ read-items-spec =
     loop-holds
     sub-stops-at
     stops-at-requires
-    sub-item-at
-    item-at-requires
+    sub-read-item
+    read-item-requires
     enum-known-found
     enum-told
     fault-of-requires

@@ -13,10 +13,10 @@ use Rattle.stream.specs.declared.items.Item.{Item}
 use Rattle.stream.specs.declared.items.Found.the-variants.{Whole}
 use Rattle.stream.specs.Items.{adds, yields, extra, stops, itemAt, readItems}
 use Rattle.stream.specs.Stuffing.{unstuffFrom}
+use Rattle.stream.specs.StuffingLaws.{unstuff-is-bits}
 use Rattle.stream_reader.specs.Places.{rest, Stands, stands-start}
 use Rattle.stream_reader.specs.Scan.{scan-start}
 use Rattle.stream_reader.specs.Written.{Room}
-use Rattle.stream_reader.proofs.WordParts.{unstuff-is-bits}
 use Rattle.stream_reader.proofs.Passes.{bits-left, stands-further}
 use Rattle.stream_reader.proofs.Filling.{Filled, read-room, written-all, filled-length, item-bounds, filled-item, filled-fault, filled-stop}
 use Rattle.stream_reader.proofs.message.write_message.Statement.{statement}
@@ -84,7 +84,7 @@ module _ (c : tie.After-item Inv-loop μ-loop) where
   used = c .item .given .0 .1 .0
 
   here : itemAt (head .loop .set) (left head) ≡ Whole item used
-  here = sym (c .before .before .item-at .ensures) ∙ c .item .given .1
+  here = sym (c .before .before .read-item .ensures) ∙ c .item .given .1
 
   bounds : (1 ≤ used) × (head .loop .at + (used + extra item) ≤ length (stream head)) × (head .loop .n + yields item ≤ length (buffer head)) × (head .loop .n + yields item ≤ length (stream head))
   bounds =
@@ -111,11 +111,13 @@ sub-stops-at c = omega (arith, total c, c .loop .inv .1 .within)
 stops-at-requires : tie.Need-stops-at-requires Inv-loop μ-loop
 stops-at-requires c κs = (low c, (omega arith, length-left c))
 
-sub-item-at : tie.Need-sub-item-at Inv-loop μ-loop
-sub-item-at c = let l = c .before .before in omega (arith, total l, l .loop .inv .1 .within)
+sub-read-item : tie.Need-sub-read-item Inv-loop μ-loop
+sub-read-item c = let l = c .before .before in omega (arith, total l, l .loop .inv .1 .within)
 
-item-at-requires : tie.Need-item-at-requires Inv-loop μ-loop
-item-at-requires c κs = let l = c .before .before in (low l, (l .loop .inv .0 .read .set, length-left l))
+read-item-requires : tie.Need-read-item-requires Inv-loop μ-loop
+read-item-requires c κs =
+    let l = c .before .before in
+    record { least = some l; most = omega (arith, start l .pre .1 .0); known = l .loop .inv .0 .read .set; counted = length-left l }
 
 enum-known-item : tie.Need-enum-known-item Inv-loop μ-loop
 enum-known-item c = search needs
@@ -132,8 +134,8 @@ returns c =
     let z = l .loop in
     absurd
     (filled-fault (B l - 1) (words l) (z .at) (z .place .word) (z .place .bit) (z .inv .1) (B l) (some l) (start l .pre .1 .0) (z .set) (z .n)
-    (buffer l) (z .message) (z .inv .0) (room l) (c .before .before .item-at .result) (c .before .match .keys2)
-    (live (c .before .before .before)) (c .before .before .item-at .ensures))
+    (buffer l) (z .message) (z .inv .0) (room l) (c .before .before .read-item .result) (c .before .match .keys2)
+    (live (c .before .before .before)) (c .before .before .read-item .ensures))
 
 extra-of-requires : tie.Need-extra-of-requires Inv-loop μ-loop
 extra-of-requires c κs = let i = c .before in omega (arith, head i .before .stream-length .ensures, bounds i)
@@ -238,8 +240,8 @@ write-message-spec =
     loop-holds
     sub-stops-at
     stops-at-requires
-    sub-item-at
-    item-at-requires
+    sub-read-item
+    read-item-requires
     enum-known-item
     enum-told
     same-length

@@ -10,8 +10,8 @@ use borrow.Author.Tests.{lt-leb, le-leb}
 use borrow.Author.Count.{below-more}
 use Rattle.list_laws.specs.Range.{all-of, all-but}
 use Rattle.list_laws.specs.Tests.{true-of, holds}
-use Rattle.orientation.proofs.modules.all_read.Statement.{statement}
-use Rattle.orientation.proofs.modules.all_read.Tie as tie
+use Rattle.orientation.proofs.modules.all_lawful.Statement.{statement}
+use Rattle.orientation.proofs.modules.all_lawful.Tie as tie
 
 abbrev Inv-loop : tie.InvT-loop
 Inv-loop grid k₀ k = (k ≤ length grid) × ((i : ℕ) → i < k → leb (getD grid i 0) 2 ≡ true)
@@ -49,8 +49,8 @@ returns-2 c =
     let g = c .before .before .args .grid .now in
     sym (true-of _ (all-of (length g) (λ k. leb (getD g k 0) 2) (λ i h. holds (l .inv .1 i (omega arith)))))
 
-pub all-read-spec : {M : Type 1} → statement M
-all-read-spec =
+pub all-lawful-spec : {M : Type 1} → statement M
+all-lawful-spec =
     tie.close
     (tie.spec
     Inv-loop

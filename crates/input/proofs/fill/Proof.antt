@@ -1,17 +1,17 @@
--- Each read that goes on leaves less of the block.
+-- Each read that goes on leaves less of the buffer.
 -- Assumes nothing.
 use mathlib.Core.Path.{_≡_}
 use Prim.Native.Nat.{_-_, _≤_}
 use borrow.Author.Needs.{needs}
 use lib.ListN.{length}
-use Rattle.print_run.proofs.fill.Statement.{statement}
-use Rattle.print_run.proofs.fill.Tie as tie
+use Rattle.input.proofs.fill.Statement.{statement}
+use Rattle.input.proofs.fill.Tie as tie
 
 abbrev Inv-loop : tie.InvT-loop
-Inv-loop fd block₀ at₀ block at = (at ≤ length block) × (length block ≡ length block₀)
+Inv-loop fd buffer₀ at₀ buffer at = (at ≤ length buffer) × (length buffer ≡ length buffer₀)
 
 abbrev μ-loop : tie.MeasureT-loop
-μ-loop fd block₀ at₀ block at = length block₀ - at
+μ-loop fd buffer₀ at₀ buffer at = length buffer₀ - at
 
 loop-holds : tie.Need-loop-holds Inv-loop μ-loop
 loop-holds c = search needs
