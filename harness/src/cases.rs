@@ -70,6 +70,12 @@ pub fn all(seed: u64, count: usize, take: &mut dyn FnMut(Case)) {
     named::all(take);
     small::all(take);
     unlawful::all(&mut Random::new(seed ^ 1), take);
+    drawn(seed, count, take);
+    large::all(&mut Random::new(seed ^ 2), take);
+}
+
+/// Damaged blocks of every kind, by chance.
+pub fn drawn(seed: u64, count: usize, take: &mut dyn FnMut(Case)) {
     let mut random = Random::new(seed);
     for i in 0..count {
         let field = Field::of(SIZES[i % SIZES.len()]).expect("a listed size");
@@ -83,7 +89,6 @@ pub fn all(seed: u64, count: usize, take: &mut dyn FnMut(Case)) {
             k,
         }));
     }
-    large::all(&mut Random::new(seed ^ 2), take);
 }
 
 /// n and K: the edges of what is lawful, the shapes of real tags, and anything small.

@@ -31,12 +31,7 @@ pub fn run(seed: u64, count: usize) -> ExitCode {
     for fault in own_faults(seed) {
         tally.fail(&format!("the harness itself: {fault}"));
     }
-    cases::all(seed, count, &mut |case| {
-        let due = tally.due(&case);
-        let turn = tally.passed + tally.failed;
-        let list = differences(&case.call, &due, turn);
-        tally.count_case(&case, &due, list);
-    });
+    cases::all(seed, count, &mut |case| tally.case(&case));
     // Last, since a stack that is too small ends the program.
     let case = cases::large::largest(&mut Random::new(seed ^ 3));
     let due = tally.due(&case);
@@ -68,6 +63,14 @@ impl Tally {
             return;
         }
         self.fail(&format!("{}: {}", told(), list.join("; ")));
+    }
+
+    /// One call of the library's corrector.
+    pub fn case(&mut self, case: &Case) {
+        let due = self.due(case);
+        let turn = self.passed + self.failed;
+        let list = differences(&case.call, &due, turn);
+        self.count_case(case, &due, list);
     }
 
     fn count_case(&mut self, case: &Case, due: &Answer, list: Vec<String>) {

@@ -11,6 +11,8 @@
 //! `harness compare-listing PROGRAM [--seed N] [--count N]` and `harness bench-listing PROGRAM`
 //! run the print run's program; `harness own-listing [FILE]` lists by the harness's own maker.
 //! `harness draw-list FOLDER [--own]` draws 300 symbols for another reader.
+//! `harness soak SECONDS [--seed N]` compares corrector, maker and reader for a time, with a
+//! fresh seed unless one is given.
 
 mod bench;
 mod cases;
@@ -24,6 +26,7 @@ mod peer;
 mod random;
 mod reader;
 mod reference;
+mod soak;
 mod stream;
 mod symbol;
 mod times;
@@ -35,7 +38,8 @@ const USAGE: &str = "usage: harness compare [--seed N] [--count N] | harness ben
        harness compare-encode [--seed N] [--count N] | harness bench-encode
        harness compare-decode [--seed N] [--count N] | harness bench-decode
        harness compare-listing PROGRAM [--seed N] [--count N] | harness bench-listing PROGRAM
-       harness own-listing [FILE] | harness draw-list FOLDER [--own]";
+       harness own-listing [FILE] | harness draw-list FOLDER [--own]
+       harness soak SECONDS [--seed N]";
 const SEED: u64 = 24_778;
 
 /// How many cases by chance, where `--count` doesn't say: blocks or messages for the corrector
@@ -72,6 +76,15 @@ fn main() -> ExitCode {
         ["own-listing", file] => listing::own::run(Some(file)),
         ["draw-list", folder] => encode::draw::run(folder, false),
         ["draw-list", folder, "--own"] => encode::draw::run(folder, true),
+        ["soak", seconds] => soaked(seconds, None),
+        ["soak", seconds, "--seed", seed] => soaked(seconds, Some(seed)),
+        _ => usage(),
+    }
+}
+
+fn soaked(seconds: &str, seed: Option<&str>) -> ExitCode {
+    match (seconds.parse(), seed.map(str::parse).transpose()) {
+        (Ok(seconds), Ok(seed)) => soak::run(seconds, seed),
         _ => usage(),
     }
 }

@@ -87,6 +87,11 @@ pub fn all(seed: u64, count: usize, take: Take) {
     orientations::all(&mut Random::new(seed ^ 30), take);
     pairs::all(&mut Random::new(seed ^ 24), take);
     garbage::all(&mut Random::new(seed ^ 25), take);
+    drawn(seed, count, take);
+}
+
+/// Symbols by chance, whole and damaged.
+pub fn drawn(seed: u64, count: usize, take: Take) {
     streams::all(seed, count / 8, take);
     made::all(&mut Random::new(seed ^ 27), count, take);
 }

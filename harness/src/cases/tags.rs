@@ -43,6 +43,11 @@ pub fn all(seed: u64, count: usize, take: Take) {
     }
     refused::all(take);
     edges::all(take);
+    drawn_tags(seed, count, take);
+}
+
+/// Messages and percentages by chance.
+pub fn drawn_tags(seed: u64, count: usize, take: Take) {
     let mut random = Random::new(seed ^ 8);
     for i in 0..count {
         take(any(&mut random, i));

@@ -69,7 +69,7 @@ impl Run {
 
     /// One grid, by the independent reader and by construction; these have to agree, or the
     /// harness itself has failed.
-    fn shot(&mut self, shot: &Shot) {
+    pub fn shot(&mut self, shot: &Shot) {
         let reading = reader::read(&shot.modules, shot.side);
         if shot.known.as_ref().is_some_and(|known| *known != reading) {
             let known = shot.known.as_ref();
