@@ -1,5 +1,4 @@
--- Worked examples, no part of what the crate promises: document 01's print run, its limits ("Tags on the bench"), and the standard's
--- annex G.
+-- Worked examples, no part of what the crate promises: document 01's print run, and the standard's annex G.
 -- Assumes nothing.
 use mathlib.Core.Path.{_≡_, refl}
 use mathlib.Core.Bool.{Bool, true, false}
@@ -45,12 +44,6 @@ unfolding cases bits chars table row entry width position codeOf has home coded 
     shape.side shape.bits shape.wordSize shape.words shape.mostWords shape.isFull shape.layers
     refused dataWords leastCheck fits listed firstFrom fitsListed planned planOf
 plans-right = refl
-
--- "Largest D at 23 percent in C1 is 10; at 95 percent C4 allows 0 and F4 allows 1"
-pub limits-right : (fits 23 false 1 10 ≡ true) × (fits 23 false 1 11 ≡ false) × (fits 95 false 4 1 ≡ false) × (fits 95 true 4 1 ≡ true)
-    × (fits 95 true 4 2 ≡ false) × (fits 5 false 4 64 ≡ true) × (fits 5 false 4 65 ≡ false) × (fits 5 true 4 65 ≡ true)
-unfolding fits leastCheck shape.bits shape.wordSize shape.words shape.mostWords
-limits-right = (refl, refl, refl, refl, refl, refl, refl, refl)
 
 -- annex G: the check words of its ten data words, and the mode words of one layer with ten data words
 pub annex-g : (checkWords (sizeOf 6) 7 (9 ∷ 50 ∷ 1 ∷ 41 ∷ 47 ∷ 2 ∷ 39 ∷ 37 ∷ 1 ∷ 27 ∷ []) ≡ 38 ∷ 50 ∷ 8 ∷ 16 ∷ 10 ∷ 20 ∷ 40 ∷ [])

@@ -54,7 +54,7 @@ found : (s : field.WordSize) (K n : ℕ) (word mark : ℕ → ℕ) (made : List 
 found s K n word mark made below fits e valid within =
     nearest-some s K K (tabulate word n) (tabulate mark n) (length-tabulate mark n ∙ sym (length-tabulate word n)) readable (le-refl K)
     (subst (λ k. k < 2 ^ field.bits s) (sym (length-tabulate word n)) fits)
-    (record { size = e ∙ sym (length-tabulate word n); valid = valid; within = within })
+    (record { size = e ∙ sym (length-tabulate word n); valid = valid; within = omega (arith, within) })
   where
     readable : (i : ℕ) → T (not (marked (tabulate mark n) i)) → getD (tabulate word n) i 0 < 2 ^ field.bits s
     readable i t = go (decLt i n)

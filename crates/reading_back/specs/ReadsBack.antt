@@ -130,4 +130,5 @@ module _ (message : List ℕ) (percent : ℕ) where
         orientation : inSymbol (side full L) (symbol full L (modeWords full L D) (block message full L)) ≤ 1
         orientation =
             subst (λ u. inSymbol (side full L) u ≤ 1) (made-symbol x (s .made))
-            (subst (λ m. inSymbol m (encodeOf message percent (replicate (n * n) 0) .grid) ≤ 1) (answer .side-is) (s .orientation))
+            (subst (λ m. inSymbol m (encodeOf message percent (replicate (n * n) 0) .grid) ≤ 1) (answer .side-is)
+            (omega (arith, s .orientation)))

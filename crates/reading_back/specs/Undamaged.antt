@@ -231,13 +231,14 @@ module _ (message : List ℕ) (percent : ℕ) (x : Bytes message) (made : planOf
             λ k h. subst (λ g. getD g k 0 ≤ 2) (sym tag-is)
             (let l = placed-most (side f ls) p (symbol f ls ms ws) (symbol-most f ls ms ws) k in omega (arith, l));
         orientation =
-            subst (λ c. c ≤ 1)
-            (sym (count-zero 12
-            (λ k. let at = placeIn (n message percent) p (orientationPlace f (n message percent) k) in
-            not (eqb (getD (madeTag message percent p) at 0) (getD (madeTag message percent p) at 0)))
-            (λ k h. let at = placeIn (n message percent) p (orientationPlace f (n message percent) k) in
-            ap not (eq-eqb (getD (madeTag message percent p) at 0) (getD (madeTag message percent p) at 0) refl))))
-            (omega arith);
+            omega (
+              arith,
+              count-zero 12
+                  (λ k. let at = placeIn (n message percent) p (orientationPlace f (n message percent) k) in
+                  not (eqb (getD (madeTag message percent p) at 0) (getD (madeTag message percent p) at 0)))
+                  (λ k h. let at = placeIn (n message percent) p (orientationPlace f (n message percent) k) in
+                  ap not (eq-eqb (getD (madeTag message percent p) at 0) (getD (madeTag message percent p) at 0) refl)),
+            );
         mode =
             subst (λ g. Within (modeChecks f) (modeWordsIn f (n message percent) p g) (modeMarksIn f (n message percent) p g) ms) (sym tag-is)
             (subst (λ m. Within (modeChecks f) (modeWordsIn f m p shown) (modeMarksIn f m p shown) ms) (sym (answer .side-is)) mode-exact);

@@ -5,10 +5,12 @@ use mathlib.Core.Bool.{cond}
 use mathlib.Core.List.{List, [], _∷_}
 use Prim.Native.Nat.{ℕ, zero, suc, _≤_, _<_}
 use native.Mathlib.Nat.{le-of-suc-le-suc, not-suc-le-zero}
+use native.Mathlib.Omega.{arith}
 use lib.Dec.{leb}
 use lib.ListN.{length, getD, List·getD-eq-default}
+use lib.Seq.{ext-getD}
 use borrow.Author.Tests.{le-leb, lt-leb}
-use Rattle.list_laws.specs.Filled.{tabulate, tabulate-getD}
+use Rattle.list_laws.specs.Filled.{tabulate, tabulate-getD, length-tabulate, getD-tabulate}
 
 -- a module after its change: to 0, 1 or 2, unread; a number above 2 leaves it
 unfoldable pub changedTo : ℕ → ℕ → ℕ
@@ -45,3 +47,13 @@ module _ (changes : List ℕ) (k was : ℕ) where
     unfolding changedTo
     changes-to l =
         sym (ap (λ c. cond (leb c 2) c was) (entry-any changes k 3 0 h) ∙ ap (λ b. cond b (getD changes k 0) was) (le-leb _ _ l))
+
+-- a change for each module, none above 2: exactly those. So every grid of 0, 1 and 2 arises from a tag of its size
+pub damaged-all : (tag changes : List ℕ) → length changes ≡ length tag → ((k : ℕ) → k < length changes → getD changes k 0 ≤ 2)
+    → damaged tag changes ≡ changes
+unfolding damaged
+damaged-all tag changes e h =
+    ext-getD 0 _ _ (length-tabulate _ (length tag) ∙ sym e)
+    (λ k l.
+    let inside : k < length tag = omega (arith, l, length-tabulate (λ k. changedTo (getD tag k 0) (getD changes k 3)) (length tag)) in
+    getD-tabulate _ 0 (length tag) k inside ∙ sym (changes-to changes k (getD tag k 0) (omega (arith, e)) (h k (omega (arith, e)))))

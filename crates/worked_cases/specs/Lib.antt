@@ -1,1 +1,12 @@
 pub mod Cases
+pub mod FieldExamples
+pub mod CorrectorExamples
+pub mod CodeExamples
+pub mod StreamExamples
+pub mod ItemExamples
+pub mod SymbolExamples
+pub mod ReaderExamples
+pub mod LightGrid
+pub mod MakerExamples
+pub mod RoundTripExamples
+pub mod ListingExamples
