@@ -7,7 +7,7 @@ use native.Mathlib.Omega.{arith}
 use native.Mathlib.Decide.{decLt}
 use lib.Bits.{xor-lt}
 use lib.Dec.{T, eqb, eqb→eq}
-use lib.ListN.{length, getD}
+use lib.ListN.{getD}
 use Rattle.algebra.specs.Field.{isZero, isZero→zero, zero→isZero}
 use Rattle.algebra.specs.Sums.{pow}
 use Rattle.list_laws.specs.Tests.{same-test}

@@ -9,14 +9,14 @@ use native.Mathlib.Numerals.{add-one}
 use native.Mathlib.Decide.{decLt}
 use native.Mathlib.Omega.{arith}
 use lib.Dec.{T}
-use lib.ListN.{length, getD, set, length-set}
+use lib.ListN.{length, getD, set}
 use lib.Seq.{getD-set-same, getD-set-other}
 use Rattle.algebra.specs.Field.{ring}
 use Rattle.algebra.specs.Sums.{pow}
 use Rattle.algebra.specs.Locator.{unit, timesX}
 use Rattle.algebra.specs.Values.{Vanishing, timesRoot, vanishing-none, vanishing-skip, vanishing-take, vanishing-cong}
 use Rattle.list_laws.specs.Range.{one, one-yes, one-no, count-most, up-to}
-use Rattle.finite_field.specs.Field.{WordSize, Word}
+use Rattle.finite_field.specs.Field.{WordSize}
 use Rattle.finite_field.specs.FieldLaws.{one-word}
 use Rattle.finite_field.specs.Instance.{wordField, word, entry, x, word-zero, word-one}
 use Rattle.correction.specs.Received.{Words}

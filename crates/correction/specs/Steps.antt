@@ -7,7 +7,6 @@ use mathlib.Core.List.{List}
 use Prim.Native.Nat.{ℕ, suc, _^_, _≤_, _<_}
 use lib.Dec.{T}
 use lib.ListN.{length, getD}
-use Rattle.algebra.specs.Field.{Field}
 use Rattle.algebra.specs.Sums.{pow}
 use Rattle.algebra.specs.Vandermonde.{powerSum}
 use Rattle.algebra.specs.Distance as distance

@@ -1,20 +1,19 @@
 -- What the corrector's contract says to the decoder, whose arguments are lawful: the nearest block, or none.
 -- Assumes nothing.
-use mathlib.Core.Path.{_≡_, refl, sym, ap, ap₂, _∙_, subst}
-use mathlib.Core.Bool.{Bool, true, false, not, cond, _&&_, _||_}
+use mathlib.Core.Path.{_≡_, refl, sym, ap, _∙_, subst}
+use mathlib.Core.Bool.{Bool, true, false, cond, _||_}
 use mathlib.Core.List.{List}
 use mathlib.Core.Option.{Option, none, some}
-use Prim.Native.Nat.{ℕ, _+_, _*_, _-_, _^_, _≤_, _<_}
-use native.Mathlib.Nat.{le-refl}
+use Prim.Native.Nat.{ℕ, _-_, _^_, _≤_, _<_}
 use native.Mathlib.Omega.{arith}
 use lib.Dec.{T, eqb, ltb, leb, le→leb, lt→ltb}
 use lib.ListN.{length, getD}
 use borrow.Author.Tests.{eq-eqb, lt-ltb}
-use Rattle.list_laws.specs.Range.{all, all-of}
+use Rattle.list_laws.specs.Range.{all-of}
 use Rattle.list_laws.specs.Tests.{both, true-of}
-use Rattle.finite_field.specs.Field.{WordSize, bits, sizeOf}
+use Rattle.finite_field.specs.Field.{bits, sizeOf}
 use Rattle.reed_solomon.specs.Nearest.{nearest, marked}
-use Rattle.reed_solomon.specs.Correct.{Answer, answer, lawfulWords, correctOf}
+use Rattle.reed_solomon.specs.Correct.{answer, lawfulWords, correctOf}
 
 -- whether a block was found, and the block
 pub record Corrected (found : Bool) (block : List ℕ) (o : Option (List ℕ)) : Type 0 where

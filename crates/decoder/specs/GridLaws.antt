@@ -2,21 +2,19 @@
 -- Assumes nothing.
 use mathlib.Core.Path.{_≡_, refl, sym, ap, _∙_}
 use mathlib.Core.Logic.{_≢_}
-use mathlib.Core.Bool.{Bool, true, false, not, cond}
+use mathlib.Core.Bool.{Bool, true, false}
 use mathlib.Core.List.{List}
 use mathlib.Core.Option.{Option, none, some}
 use Prim.Native.Nat.{ℕ, _*_, _≤_, _<_}
 use native.Mathlib.Omega.{arith}
-use lib.Dec.{eqb, leb}
-use lib.ListN.{length, getD}
+use lib.ListN.{length}
 use borrow.Author.Tests.{eq-eqb, ne-eqb}
-use Rattle.list_laws.specs.Range.{all}
 use Rattle.orientation.specs.Sides.{isSide}
 use Rattle.orientation.specs.Family.{looksFull}
 use Rattle.orientation.specs.Position.{position, positionNumber}
 use Rattle.orientation.specs.PositionLaws.{found-best}
 use Rattle.decoder.specs.Stages.{lawfulModules, modeIn}
-use Rattle.decoder.specs.Decode.{Result, refused, readMode, readIn, readGrid, decodeOf}
+use Rattle.decoder.specs.Decode.{refused, readMode, readIn, readGrid, decodeOf}
 
 module _ (g buffer : List ℕ) (n : ℕ) {f : Bool} (family : f ≡ looksFull n g) {t : ℕ} (is : t ≡ positionNumber (position f n g)) where
   grid-is : readIn g buffer f n (position f n g) ≡ readGrid g buffer n

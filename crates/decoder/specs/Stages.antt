@@ -6,7 +6,7 @@ use mathlib.Core.List.{List}
 use mathlib.Core.Option.{Option}
 use Prim.Native.Nat.{ℕ, _+_, _*_, _-_, _/_, _%_}
 use lib.Dec.{eqb, leb, ltb}
-use lib.ListN.{length, getD, take}
+use lib.ListN.{length, getD}
 use Rattle.list_laws.specs.Filled.{tabulate}
 use Rattle.list_laws.specs.Range.{count, all}
 use Rattle.finite_field.specs.Field.{sizeOf}

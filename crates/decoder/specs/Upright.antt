@@ -1,30 +1,26 @@
 -- The stages over the grid turned upright, as the code has it, and that they are those of Decode.
 -- Assumes nothing.
-use mathlib.Core.Path.{_≡_, refl, sym, ap, ap₂, _∙_, subst}
-use mathlib.Core.Bool.{Bool, true, false, cond, _&&_}
+use mathlib.Core.Path.{_≡_, sym, ap, _∙_, subst}
+use mathlib.Core.Bool.{Bool, true, false, cond}
 use mathlib.Core.List.{List, _++_}
 use mathlib.Core.Option.{Option, none, some}
-use Prim.Native.Nat.{ℕ, _+_, _*_, _-_, _≤_, _<_}
-use lib.Dec.{eqb, leb, ltb, eqb→eq, leb→le}
-use lib.ListN.{length, getD, take, drop}
+use Prim.Native.Nat.{ℕ, _+_, _-_, _≤_, _<_}
+use lib.Dec.{eqb, leb, eqb→eq, leb→le}
+use lib.ListN.{length, take, drop}
 use borrow.Author.Tests.{le-leb, lt-leb}
-use Rattle.list_laws.specs.Filled.{tabulate, length-tabulate, getD-tabulate}
 use Rattle.list_laws.specs.Tests.{both-parts, holds}
-use Rattle.list_laws.specs.Writes.{writes}
 use Rattle.finite_field.specs.Field.{sizeOf}
 use Rattle.reed_solomon.specs.Nearest.{nearest}
 use Rattle.stream.specs.Items as items
-use Rattle.stream.specs.Stuffing.{flat}
-use Rattle.symbol.specs.Shapes.{side, wordSize, words, core, numberOf, Shaped}
-use Rattle.symbol.specs.Places.{modeRun}
-use Rattle.symbol.specs.GridWords.{moduleAt, unread, blockModule, modeWord, blockWord}
-use Rattle.sampling.specs.Sampled.{modeWordsOf, modeMarksOf, blockWordsOf, blockMarksOf, tabulate-same, mode-words-upright, mode-marks-upright, block-words-upright, block-marks-upright}
+use Rattle.symbol.specs.Shapes.{side, wordSize, words, numberOf}
+use Rattle.symbol.specs.GridWords.{unread}
+use Rattle.sampling.specs.Sampled.{modeWordsOf, modeMarksOf, blockWordsOf, blockMarksOf}
 use Rattle.sampling.specs.Flat.{flatMarked}
 use Rattle.encoder.specs.ModeMessage.{modeChecks}
-use Rattle.decoder.specs.Stages.{modeWordsIn, modeMarksIn, modeIn, saidLayers, saidWords, lawfulMode, blockWordsIn, blockMark, blockMarksIn, blockIn}
-use Rattle.decoder.specs.Counts.{unreadOf, wrongOf, unread-of, wrong-of}
+use Rattle.decoder.specs.Stages.{saidLayers, saidWords, lawfulMode}
+use Rattle.decoder.specs.Counts.{unreadOf, wrongOf}
 use Rattle.decoder.specs.Saying.{Says}
-use Rattle.decoder.specs.Decode.{Result, refused, delivered, deliver, readStream, readBlock, readShape, readMode}
+use Rattle.decoder.specs.Decode.{Result, refused}
 
 module _ (buffer : List ℕ) where
   -- a message with room for it, its counts taken from what was received

@@ -1,6 +1,6 @@
 -- What is read from the grid turned upright is what Decode reads from the grid.
 -- Assumes nothing.
-use mathlib.Core.Path.{_≡_, refl, sym, ap, ap₂, _∙_, subst}
+use mathlib.Core.Path.{_≡_, refl, sym, ap, ap₂, _∙_}
 use mathlib.Core.Bool.{Bool, true, false, cond, _&&_}
 use mathlib.Core.List.{List, _++_}
 use mathlib.Core.Option.{Option, none, some}
@@ -18,13 +18,12 @@ use Rattle.symbol.specs.GridWords.{moduleAt, unread, blockModule, blockWord}
 use Rattle.sampling.specs.Sampled.{blockWordsOf, blockMarksOf, tabulate-same, mode-words-upright, mode-marks-upright, block-words-upright, block-marks-upright}
 use Rattle.sampling.specs.Flat.{flatMarked}
 use Rattle.encoder.specs.ModeMessage.{modeChecks}
-use Rattle.decoder.specs.declared.Decoded.{Decoded}
-use Rattle.decoder.specs.Stages.{modeWordsIn, modeMarksIn, modeIn, saidLayers, saidWords, lawfulMode, blockWordsIn, blockMark, blockMarksIn, blockIn, unreadWords, wrongWords}
-use Rattle.decoder.specs.Said.{Nibbles, said-shaped}
-use Rattle.decoder.specs.Counts.{unreadOf, wrongOf, unread-of, wrong-of}
-use Rattle.decoder.specs.Decode.{Result, refused, delivered, deliver, readStream, readBlock, readShape, readMode}
+use Rattle.decoder.specs.Stages.{modeWordsIn, modeMarksIn, modeIn, saidLayers, saidWords, lawfulMode, blockWordsIn, blockMark, blockMarksIn, blockIn}
+use Rattle.decoder.specs.Said.{said-shaped}
+use Rattle.decoder.specs.Counts.{unread-of, wrong-of}
+use Rattle.decoder.specs.Decode.{Result, refused, deliver, readStream, readBlock, readShape, readMode}
 use Rattle.decoder.specs.LawfulWords.{found-nibbles}
-use Rattle.decoder.specs.Upright.{answerWith, deliverOf, blockOf, readFound, readShapeOf, modeOf, readSaid, lawful-parts}
+use Rattle.decoder.specs.Upright.{deliverOf, blockOf, readFound, readShapeOf, modeOf, readSaid, lawful-parts}
 
 module _ (n p : ℕ) (g before : List ℕ) (room : n * n ≤ length before) {u : List ℕ} (made : u ≡ writes before (λ k. k) (moduleAt n p g) (n * n))
     (buffer : List ℕ) (f : Bool) (wide : 2 * core f < n) where

@@ -1,13 +1,13 @@
 -- The three outcomes of encoding, and what an answer of 0 says of the message.
 -- Assumes nothing.
-use mathlib.Core.Path.{_≡_, refl, sym, ap, ap₂, _∙_, subst}
+use mathlib.Core.Path.{_≡_, refl, sym, ap, _∙_, subst}
 use mathlib.Core.Logic.{_≢_}
 use mathlib.Core.Bool.{Bool, true, false, cond}
 use mathlib.Core.List.{List}
 use Prim.Native.Nat.{ℕ, _+_, _*_, _-_, _≤_, _<_}
 use native.Mathlib.Nat.{le-trans, mul-le-mul}
 use native.Mathlib.Omega.{arith}
-use lib.Dec.{T, eqb, ltb, leb, leb→le}
+use lib.Dec.{T, ltb, leb, leb→le}
 use lib.ListN.{length}
 use borrow.Author.Tests.{eq-eqb, ne-eqb, le-leb, lt-leb, ltb-true, ltb-false}
 use Rattle.list_laws.specs.Range.{all}
@@ -16,9 +16,9 @@ use Rattle.symbol.specs.Shapes.{side, bits, wordSize, words, isFull, layers, nu
 use Rattle.symbol.specs.DataPlaces.{side-most}
 use Rattle.symbol.specs.ShapeTable.{everyShape, at-shape}
 use Rattle.encoder.specs.declared.Encoded.{Encoded}
-use Rattle.encoder.specs.Plan.{dataWords, refused, listed, planned, planOf}
-use Rattle.encoder.specs.Encode.{Result, result, drawnMessage, encodeOf}
-use Rattle.encoder.specs.Fitting.{Fitting, Planned, plan-fits, fitting}
+use Rattle.encoder.specs.Plan.{refused, listed, planned, planOf}
+use Rattle.encoder.specs.Encode.{result, drawnMessage, encodeOf}
+use Rattle.encoder.specs.Fitting.{Fitting, plan-fits, fitting}
 
 module _ (message : List ℕ) (percent : ℕ) (grid : List ℕ) where
   abbrev plan : Encoded

@@ -1,7 +1,7 @@
 -- Worked examples, no part of what the crate promises: document 01's print run, and the standard's annex G.
 -- Assumes nothing.
 use mathlib.Core.Path.{_≡_, refl}
-use mathlib.Core.Bool.{Bool, true, false}
+use mathlib.Core.Bool.{false}
 use mathlib.Core.List.{List, [], _∷_, map}
 use Prim.Native.Nat.{ℕ}
 use Rattle.list_laws.specs.Filled.{tabulate}

@@ -3,10 +3,10 @@
 use mathlib.Core.Path.{_≡_, refl, sym, ap, _∙_, subst}
 use mathlib.Core.Bool.{Bool, true, false}
 use mathlib.Core.List.{List, [], _∷_, _++_}
-use Prim.Native.Nat.{ℕ, zero, suc, _+_, _*_, _-_, _/_, _%_, _≤_, _<_}
+use Prim.Native.Nat.{ℕ, _+_, _*_, _-_, _/_, _%_, _≤_}
 use native.Mathlib.Nat.{mod-lt}
 use native.Mathlib.Omega.{arith}
-use lib.ListN.{length, take, set, getD, length-append}
+use lib.ListN.{length, take, set, length-append}
 use Rattle.finite_field.specs.Field.{sizeOf}
 use Rattle.reed_solomon.specs.Block.{Words, Valid}
 use Rattle.reed_solomon.specs.CheckWords.{checkWords, withCheckWords}

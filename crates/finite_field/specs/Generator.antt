@@ -4,7 +4,7 @@
 use mathlib.Core.Path.{_≡_, refl, sym, ap, ap₂, _∙_, subst}
 use mathlib.Core.Logic.{_≢_}
 use Prim.Native.Nat.{ℕ, zero, suc, _+_, _-_, _*_, _^_, _≤_, _<_}
-use native.Mathlib.Nat.{zero-mul, suc-mul, mul-one, mul-suc, mul-zero, add-comm, add-assoc, add-sub-of-le, sub-add-cancel, le-of-lt, le-mul-of-pos-right}
+use native.Mathlib.Nat.{zero-mul, suc-mul, mul-suc, mul-zero, add-comm, add-assoc, add-sub-of-le, sub-add-cancel, le-mul-of-pos-right}
 use native.Mathlib.Omega.{arith}
 use native.Mathlib.Decide.{decLe}
 use Rattle.finite_field.specs.Field as field

@@ -8,7 +8,7 @@ use native.Mathlib.Nat.{zero-mul, mul-zero, one-mul, mul-one, zero-add, suc-add,
 use native.Mathlib.Omega.{arith}
 use lib.Pow.{pow-pos, pow-mono}
 use lib.Bits.{xor-zero-r, xor-comm, xor-lt, xor-shr, xor-mod, xor-shifted}
-use Rattle.finite_field.specs.Xor.{_⊕_, bit-cases, bit-lt, bit-times-lt, xor-mid, xor-odd, xor-half, bit-xor, xor-bit, xor-double}
+use Rattle.finite_field.specs.Xor.{_⊕_, bit-cases, bit-lt, bit-times-lt, xor-mid, xor-odd, xor-half, xor-bit, xor-double}
 use Rattle.finite_field.specs.Field as field
 
 module _ (b p : ℕ) where

@@ -1,7 +1,7 @@
 -- A binary tree of 2 ^ d numbers, so that a computed test over a table looks an entry up in d steps and not in 2 ^ d.
 -- Assumes nothing.
 use mathlib.Core.Bool.{Bool, true, false}
-use mathlib.Core.List.{List, [], _∷_}
+use mathlib.Core.List.{List, _∷_}
 use Prim.Native.Nat.{ℕ, zero, suc, _-_, _^_}
 use lib.Dec.{ltb}
 

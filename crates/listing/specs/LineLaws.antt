@@ -4,14 +4,14 @@ use mathlib.Core.Path.{_≡_, refl, sym, ap, _∙_}
 use mathlib.Core.Bool.{Bool, true, false, cond, _&&_, _||_}
 use mathlib.Core.List.{List, [], _++_}
 use mathlib.Core.Option.{Option, none, some}
-use Prim.Native.Nat.{ℕ, zero, suc, _+_, _*_, _-_, _≤_, _<_, min}
+use Prim.Native.Nat.{ℕ, suc, _+_, _*_, _-_, _≤_, _<_, min}
 use native.Mathlib.Numerals.{add-one}
 use native.Mathlib.Omega.{arith}
 use lib.Dec.{eqb, ltb, leb, eqb→eq, leb→le}
 use lib.ListN.{length, getD, take, drop, length-append, length-drop, drop-of-length-le}
 use lib.Seq.{drop-cons, take-all}
 use borrow.Author.Tests.{eq-eqb, ne-eqb, leb-true, leb-false}
-use Rattle.encoder.specs.Plan.{refused, listed, fitsListed, planned, plannedFor, planOf}
+use Rattle.encoder.specs.Plan.{refused, fitsListed, planned, plannedFor, planOf}
 use Rattle.encoder.specs.PlanLaws.{listed-bounds}
 use Rattle.list_laws.specs.Search.{firstFrom, first-found}
 use Rattle.list_laws.specs.Tests.{both-parts, holds}

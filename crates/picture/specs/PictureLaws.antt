@@ -1,6 +1,6 @@
 -- How the lines grow, column by column, and how long they get.
 -- Assumes nothing.
-use mathlib.Core.Path.{_≡_, refl, sym, _∙_}
+use mathlib.Core.Path.{_≡_, refl, sym}
 use mathlib.Core.Bool.{Bool, true, false, _&&_}
 use mathlib.Core.List.{List, _++_}
 use Prim.Native.Nat.{ℕ, zero, suc, _+_, _*_, _-_, _≤_, _<_}
@@ -10,7 +10,7 @@ use native.Mathlib.Numerals.{add-one}
 use lib.ListN.{length, length-append}
 use lib.Dec.{leb, ltb}
 use borrow.Author.Tests.{leb-true, ltb-true}
-use Rattle.picture.specs.Picture.{extent, inside, dark, joined, glyph, upper, pixel, twoRows, blackOnWhite, white, reset, pairLine, halfLine}
+use Rattle.picture.specs.Picture.{extent, inside, dark, joined, glyph, upper, twoRows, blackOnWhite, white, reset, pairLine, halfLine}
 use Rattle.list_laws.specs.Putting.{Put, put-same, put-none, put-then}
 
 -- a row or column of the symbol

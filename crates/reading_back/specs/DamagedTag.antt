@@ -1,10 +1,10 @@
 -- A damaged tag, by its family and layers: each stage of the reading finds what was made.
 -- Assumes nothing.
 use mathlib.Core.Path.{_≡_, refl, sym, ap, ap₂, _∙_, subst}
-use mathlib.Core.Bool.{Bool, true, false, not, cond, _&&_}
-use mathlib.Core.List.{List, [], _∷_, _++_}
-use mathlib.Core.Option.{Option, none, some}
-use Prim.Native.Nat.{ℕ, zero, suc, _+_, _*_, _-_, _/_, _%_, _^_, _≤_, _<_}
+use mathlib.Core.Bool.{Bool, true, false, not, cond}
+use mathlib.Core.List.{List, _++_}
+use mathlib.Core.Option.{some}
+use Prim.Native.Nat.{ℕ, suc, _+_, _*_, _-_, _/_, _%_, _^_, _≤_, _<_}
 use native.Mathlib.Nat.{le-refl}
 use native.Mathlib.Omega.{arith}
 use lib.Dec.{T, eqb, leb, le→leb}
@@ -31,7 +31,7 @@ use Rattle.symbol.specs.Drawing.{symbol, orientationBits, drawn-orientation}
 use Rattle.symbol.specs.Positions.{placeIn, placed, placed-at}
 use Rattle.symbol.specs.ShapeTable.{words-fit}
 use Rattle.symbol.specs.GridWords.{value, value-lt, modeWord, blockModule, blockWord}
-use Rattle.orientation.specs.Sides.{isSide, side-of-shape}
+use Rattle.orientation.specs.Sides.{side-of-shape}
 use Rattle.orientation.specs.Family.{looksFull, looks-compact, looks-full}
 use Rattle.orientation.specs.Position.{matches, position}
 use Rattle.orientation.specs.PositionLaws.{Sided, sided, position-is}
@@ -41,7 +41,7 @@ use Rattle.encoder.specs.ModeLaws.{length-mode-words, mode-valid}
 use Rattle.encoder.specs.Encode.{block}
 use Rattle.encoder.specs.Fitting.{Fitting, size-is, block-valid, length-block}
 use Rattle.decoder.specs.Stages.{lawfulModules, modeWordsIn, modeMarksIn, modeIn, saidLayers, saidWords, lawfulMode, blockWordsIn, blockMarksIn, blockIn, unreadWords, wrongWords}
-use Rattle.decoder.specs.Decode.{Result, refused, delivered, deliver, readStream, readBlock, readShape, readMode, readIn, readGrid, decodeOf}
+use Rattle.decoder.specs.Decode.{refused, delivered, deliver, readStream, readBlock, readShape, readMode, readIn, readGrid, decodeOf}
 
 -- "within the limit if 2r + e is at most its K, with e of its words marked and r of the rest unlike the made words"
 abbrev pub Within : ℕ → List ℕ → List ℕ → List ℕ → Type 0

@@ -3,17 +3,16 @@
 -- block are within the limit.
 -- Assumes nothing.
 use mathlib.Core.Path.{_≡_, refl, sym, ap, ap₂, _∙_, subst}
-use mathlib.Core.Bool.{Bool, true, false, not, cond, _&&_}
+use mathlib.Core.Bool.{Bool, not}
 use mathlib.Core.List.{List, _++_}
-use mathlib.Core.Option.{Option, none, some}
 use Prim.Native.Nat.{ℕ, _+_, _*_, _-_, _≤_, _<_}
 use native.Mathlib.Nat.{le-refl}
 use native.Mathlib.Omega.{arith}
-use lib.Dec.{T, eqb, leb}
+use lib.Dec.{eqb}
 use lib.ListN.{length, getD, drop, replicate, length-replicate}
 use Rattle.list_laws.specs.Range.{count}
 use Rattle.stream.specs.Below.{Bytes}
-use Rattle.symbol.specs.Shapes.{side, words, isFull, layers}
+use Rattle.symbol.specs.Shapes.{side, isFull, layers}
 use Rattle.symbol.specs.Places.{orientationPlace}
 use Rattle.symbol.specs.Drawing.{drawn, symbol}
 use Rattle.symbol.specs.Positions.{placeIn, placed}
@@ -21,7 +20,6 @@ use Rattle.encoder.specs.Plan.{planOf}
 use Rattle.encoder.specs.ModeMessage.{modeChecks, modeWords}
 use Rattle.encoder.specs.Encode.{block, drawnMessage, encodeOf}
 use Rattle.encoder.specs.EncodeLaws.{encode-made, Answered, answered}
-use Rattle.decoder.specs.declared.Decoded.{Decoded}
 use Rattle.decoder.specs.Stages.{modeWordsIn, modeMarksIn, blockWordsIn, blockMarksIn, unreadWords, wrongWords}
 use Rattle.decoder.specs.Decode.{Result, decodeOf}
 use Rattle.reading_back.specs.DamagedTag.{Within, tag-read}

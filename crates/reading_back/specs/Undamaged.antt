@@ -2,18 +2,16 @@
 -- Assumes nothing.
 use mathlib.Core.Path.{_≡_, refl, sym, ap, ap₂, _∙_, subst}
 use mathlib.Core.Bool.{Bool, true, false, not, cond, _&&_}
-use mathlib.Core.List.{List, [], _∷_, _++_}
+use mathlib.Core.List.{List, [], _∷_}
 use Prim.Native.Nat.{ℕ, zero, suc, _+_, _*_, _-_, _/_, _%_, _^_, _≤_, _<_, max}
 use native.Mathlib.Omega.{arith}
-use native.Mathlib.Decide.{ℕ-discrete, decLt}
-use lib.Dec.{T, eqb, ltb, leb, leb→le, eqb-refl}
-use lib.ListN.{length, getD, set, replicate, length-set, List·getD-eq-default, List·getD-append}
-use lib.Seq.{getD-set-same, getD-set-other}
-use borrow.Author.Tests.{eq-eqb, le-ltb, ltb-true, ltb-false}
+use lib.Dec.{eqb, ltb}
+use lib.ListN.{length, getD, set, replicate, List·getD-append}
+use borrow.Author.Tests.{eq-eqb, ltb-true}
 use Rattle.list_laws.specs.Filled.{tabulate, length-tabulate, getD-tabulate}
-use Rattle.list_laws.specs.Range.{one, count, count-none, count-first, count-same}
+use Rattle.list_laws.specs.Range.{count, count-none, count-first, count-same}
 use Rattle.list_laws.specs.Writes.{writes}
-use Rattle.reed_solomon.specs.Nearest.{differ, marked}
+use Rattle.reed_solomon.specs.Nearest.{marked}
 use Rattle.reed_solomon.specs.Nearest as nearest
 use Rattle.stream.specs.Below.{Bytes}
 use Rattle.stream.specs.Stream.{bitsOf}
@@ -28,10 +26,10 @@ use Rattle.symbol.specs.GridWords.{unread, bit-lt, blockModule, modeModule, mod
 use Rattle.encoder.specs.Plan.{dataWords, planOf}
 use Rattle.encoder.specs.ModeMessage.{modeChecks, modeWords}
 use Rattle.encoder.specs.ModeLaws.{mode-valid}
-use Rattle.encoder.specs.Encode.{block, encodeOf}
+use Rattle.encoder.specs.Encode.{block}
 use Rattle.encoder.specs.EncodeLaws.{Answered}
-use Rattle.encoder.specs.Fitting.{Fitting, size-is, block-valid}
-use Rattle.decoder.specs.Stages.{modeWordsIn, modeMarksIn, blockMark, blockWordsIn, blockMarksIn, unreadWords, wrongWords}
+use Rattle.encoder.specs.Fitting.{size-is, block-valid}
+use Rattle.decoder.specs.Stages.{modeWordsIn, modeMarksIn, blockMark, blockWordsIn, blockMarksIn}
 use Rattle.decoder.specs.Decode.{decodeOf}
 use Rattle.reading_back.specs.DamagedTag.{Within}
 use Rattle.reading_back.specs.ReadsBack.{full, L, n, D, K, madeTag, spoilt, Shows, readBack, known, made-symbol, reads-back}

@@ -2,7 +2,7 @@
 -- with the corrections. This is algebra's `candidate-is`, with the lists in the place of its functions.
 -- Assumes nothing.
 use borrow.Author.Tests.{eq-eqb, ne-eqb}
-use mathlib.Core.Path.{_≡_, refl, sym, ap, _∙_, subst, fun-ext}
+use mathlib.Core.Path.{_≡_, sym, ap, _∙_, subst, fun-ext}
 use mathlib.Core.Bool.{Bool, true, false, cond, _||_}
 use mathlib.Core.List.{List}
 use Prim.Native.Nat.{ℕ, suc, _+_, _^_, _≤_, _<_}
@@ -13,10 +13,10 @@ use native.Mathlib.Decide.{decLt}
 use lib.Dec.{T, eqb}
 use lib.ListN.{length, getD}
 use Rattle.algebra.specs.Field.{isZero}
-use Rattle.algebra.specs.KeyEquation.{eval, eval-short, dot}
+use Rattle.algebra.specs.KeyEquation.{eval-short, dot}
 use Rattle.algebra.specs.Erasures as erasures
 use Rattle.algebra.specs.Exactness as exactness
-use Rattle.list_laws.specs.Range.{one, count, count-same}
+use Rattle.list_laws.specs.Range.{one, count-same}
 use Rattle.list_laws.specs.Filled.{filled, getD-filled, getD-unfilled}
 use Rattle.finite_field.specs.Field.{WordSize, bits}
 use Rattle.finite_field.specs.Instance.{wordField, word, entry, word-zero}

@@ -1,8 +1,8 @@
 -- The words that the reader takes apart: a word's stream bits by the code's tests, and steps of its place.
 -- Assumes nothing.
 use mathlib.Core.Path.{_≡_, sym, ap, ap₂, _∙_}
-use mathlib.Core.Bool.{Bool, true, false, cond, _||_}
-use mathlib.Core.List.{List, [], _∷_}
+use mathlib.Core.Bool.{cond, _||_}
+use mathlib.Core.List.{List}
 use Prim.Native.Nat.{ℕ, suc, _+_, _*_, _-_, _/_, _%_, _^_, _≤_, _<_}
 use native.Mathlib.Numerals.{add-one}
 use native.Mathlib.Omega.{arith}
@@ -12,8 +12,8 @@ use lib.Pow.{pow-mono, shl-lt}
 use lib.Seq.{drop-drop}
 use borrow.Author.Tests.{eq-eqb, ne-eqb}
 use Rattle.stream.specs.Below.{Bits, below-take, below-drop}
-use Rattle.stream.specs.Bits.{bits, value-below, bits-are-bits}
-use Rattle.stream.specs.Stuffing.{flat, wordBits, unstuffFrom}
+use Rattle.stream.specs.Bits.{value-below}
+use Rattle.stream.specs.Stuffing.{flat, unstuffFrom}
 use Rattle.stream.specs.StuffingLaws.{unstuff-is-bits}
 use Rattle.stream_reader.specs.Places.{wordLength, rest, rest-next, rest-field, some-left, Taken, taken-more}
 

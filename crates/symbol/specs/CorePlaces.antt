@@ -1,12 +1,11 @@
 -- The orientation and mode places: distinct, on the core ring, away from each other and from the data places.
 -- Assumes nothing.
-use mathlib.Core.Path.{_≡_, refl, sym, ap, ap₂, _∙_, subst}
+use mathlib.Core.Path.{_≡_, sym, ap, ap₂, subst}
 use mathlib.Core.Logic.{_≢_, _⊎_, inl, inr}
 use mathlib.Core.Bool.{Bool, true, false, not, _||_, _&&_}
-use Prim.Native.Nat.{ℕ, zero, suc, _+_, _*_, _-_, _/_, _%_, _≤_, _<_}
+use Prim.Native.Nat.{ℕ, _+_, _*_, _-_, _/_, _%_, _≤_, _<_}
 use native.Mathlib.Omega.{arith}
 use lib.Dec.{T, eqb, leb, leb→le, eqb→eq, eqb-refl, T-not}
-use borrow.Author.Tests.{eqb-true}
 use Rattle.list_laws.specs.Tests.{both-parts, either}
 use Rattle.list_laws.specs.Range.{all, all-at}
 use Rattle.symbol.specs.Shapes.{side, bits, core, centre, mostLayers, Shaped}

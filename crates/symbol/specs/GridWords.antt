@@ -2,12 +2,12 @@
 -- step 3). A module is 0, 1 or 2, unread.
 -- Assumes nothing.
 use mathlib.Core.Path.{_≡_, refl, sym, ap, ap₂, _∙_, subst}
-use mathlib.Core.Bool.{Bool, true, false, cond}
+use mathlib.Core.Bool.{Bool, cond}
 use mathlib.Core.List.{List}
 use Prim.Native.Nat.{ℕ, zero, suc, _+_, _*_, _-_, _/_, _%_, _^_, _≤_, _<_}
 use native.Mathlib.Nat.{mod-lt, mod-mod, div-eq-of-lt, div-one, div-div-eq-div-mul, pow-suc, le-refl, mul-le-mul-right, div-add-mod'}
 use native.Mathlib.Omega.{arith}
-use lib.Dec.{eqb, ltb, leb}
+use lib.Dec.{eqb}
 use lib.ListN.{length, getD, replicate, length-replicate}
 use borrow.Author.Tests.{ne-eqb, le-ltb}
 use Rattle.symbol.specs.Shapes.{side, bits, words, wordSize, skipped, Shaped}

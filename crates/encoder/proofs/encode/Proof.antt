@@ -1,17 +1,17 @@
 -- The plan's refusal, the short buffer, the symbol.
 -- Assumes nothing.
 use borrow.Author.Needs.{needs}
-use mathlib.Core.Path.{_≡_, refl, sym, ap, ap₂, _∙_, subst}
+use mathlib.Core.Path.{_≡_, sym, ap, _∙_, subst}
 use mathlib.Core.List.{List}
 use Prim.Native.Nat.{ℕ, _*_, _≤_, _<_}
 use native.Mathlib.Omega.{arith}
 use lib.ListN.{length}
-use Rattle.stream.specs.Below.{Bytes, below-of}
+use Rattle.stream.specs.Below.{below-of}
 use Rattle.symbol.specs.Shapes.{isFull, layers}
 use Rattle.symbol.specs.Drawing.{area}
 use Rattle.encoder.specs.declared.Encoded.{Encoded}
 use Rattle.encoder.specs.Plan.{planOf}
-use Rattle.encoder.specs.Encode.{drawnMessage, encodeOf}
+use Rattle.encoder.specs.Encode.{drawnMessage}
 use Rattle.encoder.specs.Fitting.{Fitting}
 use Rattle.encoder.specs.EncodeLaws.{encode-refused, encode-short, encode-made, Answered, answered, square-small}
 use Rattle.encoder.proofs.encode.Statement.{statement}

@@ -1,8 +1,7 @@
 -- A word that is not 0 is a power of x, at its logarithm.
 -- Assumes nothing.
 use borrow.Author.Needs.{needs}
-use mathlib.Core.Path.{_≡_, sym, ap, _∙_}
-use Prim.Native.Nat.{ℕ}
+use mathlib.Core.Path.{sym, ap, _∙_}
 use native.Mathlib.Omega.{arith}
 use Rattle.finite_field.specs.Field.{sizeOf, product}
 use Rattle.finite_field.specs.FieldLaws.{product-zero-right}

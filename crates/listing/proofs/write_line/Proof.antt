@@ -3,7 +3,7 @@
 use Prim.Native.Nat.{ℕ, _+_, _≤_}
 use mathlib.Core.List.{List, _++_}
 use native.Mathlib.Omega.{arith}
-use lib.ListN.{length, set}
+use lib.ListN.{set}
 use Rattle.listing.specs.Decimal.{decimal}
 use Rattle.listing.specs.Line.{recordFields, lineOf}
 use Rattle.listing.specs.DecimalLaws.{digits-most}

@@ -1,9 +1,8 @@
 -- The loop is Dividing's.
 -- Assumes nothing.
 use borrow.Author.Needs.{needs}
-use mathlib.Core.Path.{_≡_, sym, subst}
-use Prim.Native.Nat.{ℕ, _-_, _<_}
-use native.Mathlib.Omega.{arith}
+use mathlib.Core.Path.{sym, subst}
+use Prim.Native.Nat.{_-_}
 use Rattle.finite_field.specs.Field.{sizeOf, Word, power}
 use Rattle.finite_field.specs.FieldLaws.{product-word, inverse-word}
 use Rattle.correction.proofs.Dividing.{Dividing, dividing-start, next-quotient, dividing-turn, dividing-end}

@@ -1,11 +1,9 @@
 -- The loop is Correcting's.
 -- Assumes nothing.
 use borrow.Author.Needs.{needs}
-use mathlib.Core.Path.{_≡_, refl, sym, ap, _∙_}
 use mathlib.Core.Logic.{⊎-elim}
-use Prim.Native.Nat.{ℕ, _-_, _≤_, _<_}
+use Prim.Native.Nat.{_-_, _≤_}
 use native.Mathlib.Omega.{arith}
-use lib.ListN.{length}
 use Rattle.finite_field.specs.Field.{sizeOf}
 use Rattle.correction.proofs.Correcting.{Correcting, correcting-none, correcting-skip, correcting-take, correcting-all}
 use Rattle.correction.proofs.values.corrections.Statement.{statement}

@@ -2,7 +2,7 @@
 -- Assumes nothing.
 use borrow.Author.Needs.{needs}
 use borrow.Author.Tests.{eq-eqb, ne-eqb}
-use mathlib.Core.Path.{_≡_, sym, ap, _∙_}
+use mathlib.Core.Path.{sym, ap, _∙_}
 use mathlib.Core.Bool.{Bool, _||_}
 use Prim.Native.Nat.{ℕ, suc, _-_}
 use native.Mathlib.Numerals.{add-one}
@@ -10,10 +10,9 @@ use native.Mathlib.Omega.{arith}
 use lib.Dec.{eqb}
 use lib.ListN.{length, getD}
 use Rattle.algebra.specs.Field.{isZero}
-use Rattle.algebra.specs.Sums.{pow}
 use Rattle.algebra.specs.KeyEquation.{eval}
 use Rattle.finite_field.specs.Field.{sizeOf}
-use Rattle.finite_field.specs.Instance.{wordField, entry, x}
+use Rattle.finite_field.specs.Instance.{wordField, entry}
 use Rattle.correction.specs.Steps.{place}
 use Rattle.correction.proofs.Elements.{zero-test}
 use Rattle.correction.proofs.values.is_taken.Statement.{statement}

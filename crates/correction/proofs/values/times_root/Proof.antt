@@ -5,7 +5,7 @@ use mathlib.Core.Path.{_≡_, sym, ap, ap₂, _∙_, subst}
 use Prim.Native.Nat.{ℕ, _+_, _-_, _≤_, _<_}
 use native.Mathlib.Omega.{arith}
 use lib.ListN.{length, getD, set}
-use Rattle.list_laws.specs.Downward.{Between, between-none, between-down}
+use Rattle.list_laws.specs.Downward.{Between, between-down}
 use Rattle.finite_field.specs.Xor.{_⊕_}
 use Rattle.finite_field.specs.Field.{sizeOf, Word, product, power}
 use Rattle.correction.proofs.Rooting.{raised, rooted}

@@ -1,12 +1,11 @@
 -- What was read is lawful, so that the corrector answers by the nearest block alone.
 -- Assumes nothing.
 use borrow.Author.Needs.{needs}
-use mathlib.Core.Path.{_≡_, sym, ap, ap₂, _∙_}
-use mathlib.Core.List.{List}
-use Prim.Native.Nat.{ℕ, _-_, _≤_}
+use mathlib.Core.Path.{sym, ap, ap₂, _∙_}
+use Prim.Native.Nat.{_-_, _≤_}
 use native.Mathlib.Omega.{arith}
 use lib.ListN.{length}
-use Rattle.reed_solomon.specs.Correct.{Answer, correctOf}
+use Rattle.reed_solomon.specs.Correct.{correctOf}
 use Rattle.symbol.specs.Shapes.{wordSize, words, word-size-range}
 use Rattle.sampling.specs.Sampled.{blockWordsOf, blockMarksOf}
 use Rattle.sampling.specs.Flat.{flatMarked}

@@ -1,11 +1,9 @@
 -- The fronts of the two arrays are as long as the mode message.
 -- Assumes nothing.
 use borrow.Author.Needs.{needs}
-use mathlib.Core.Path.{_≡_, sym, _∙_}
-use mathlib.Core.List.{List}
-use Prim.Native.Nat.{ℕ, _≤_}
+use mathlib.Core.Path.{sym, _∙_}
+use Prim.Native.Nat.{_≤_}
 use native.Mathlib.Omega.{arith}
-use lib.ListN.{length, take}
 use lib.Seq.{length-take-le}
 use Rattle.symbol.specs.Places.{run-most}
 use Rattle.decoder.proofs.correcting.correct_mode.Statement.{statement}

@@ -1,12 +1,8 @@
 -- What was read is lawful, so that the corrector answers by the nearest block alone.
 -- Assumes nothing.
 use borrow.Author.Needs.{needs}
-use mathlib.Core.Path.{_≡_, ap, ap₂, _∙_}
-use mathlib.Core.List.{List}
-use Prim.Native.Nat.{ℕ}
-use lib.ListN.{length}
-use Rattle.list_laws.specs.Filled.{length-tabulate}
-use Rattle.reed_solomon.specs.Correct.{Answer, correctOf}
+use mathlib.Core.Path.{ap, ap₂, _∙_}
+use Rattle.reed_solomon.specs.Correct.{correctOf}
 use Rattle.sampling.specs.Sampled.{modeWordsOf, modeMarksOf}
 use Rattle.encoder.specs.ModeMessage.{modeChecks}
 use Rattle.decoder.specs.Correcting.{corrected-by}

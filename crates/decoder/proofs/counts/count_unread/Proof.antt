@@ -6,7 +6,6 @@ use mathlib.Core.Path.{_≡_, sym, ap, _∙_}
 use mathlib.Core.Logic.{⊎-elim}
 use Prim.Native.Nat.{_≤_, _-_}
 use native.Mathlib.Omega.{arith}
-use lib.ListN.{length}
 use Rattle.list_laws.specs.Range.{count, count-none, count-most, count-yes, count-no}
 use Rattle.decoder.specs.Counts.{isUnread, unreadOf}
 use Rattle.decoder.proofs.counts.count_unread.Statement.{statement}

@@ -8,7 +8,7 @@ use mathlib.Core.Logic.{⊎-elim}
 use Prim.Native.Nat.{_≤_, _-_}
 use native.Mathlib.Omega.{arith}
 use lib.Dec.{eqb}
-use lib.ListN.{length, getD}
+use lib.ListN.{getD}
 use Rattle.list_laws.specs.Range.{count, count-none, count-most, count-yes, count-no}
 use Rattle.decoder.specs.Counts.{isWrong, wrongOf}
 use Rattle.decoder.proofs.counts.count_wrong.Statement.{statement}

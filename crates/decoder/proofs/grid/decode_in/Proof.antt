@@ -3,9 +3,7 @@
 use borrow.Author.Needs.{needs}
 use mathlib.Core.Path.{_≡_, sym, ap, _∙_}
 use mathlib.Core.Bool.{true}
-use Prim.Native.Nat.{ℕ, _*_, _<_, _≤_}
 use native.Mathlib.Omega.{arith}
-use lib.ListN.{length}
 use Rattle.orientation.specs.Sides.{isSide, side-range}
 use Rattle.decoder.specs.Stages.{lawfulModules}
 use Rattle.decoder.specs.Rooms.{area-most}

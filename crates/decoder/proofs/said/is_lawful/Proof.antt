@@ -2,11 +2,11 @@
 -- Assumes nothing.
 use borrow.Author.Needs.{needs}
 use borrow.Author.Tests.{eq-eqb, ne-eqb}
-use mathlib.Core.Path.{_≡_, sym, ap, ap₂, _∙_}
-use mathlib.Core.Bool.{true, false, _&&_}
-use Prim.Native.Nat.{ℕ, _+_}
+use mathlib.Core.Path.{sym, ap, ap₂, _∙_}
+use mathlib.Core.Bool.{_&&_}
+use Prim.Native.Nat.{_+_}
 use lib.Dec.{eqb, leb}
-use Rattle.symbol.specs.Shapes.{side, words}
+use Rattle.symbol.specs.Shapes.{words}
 use Rattle.decoder.specs.Stages.{lawfulMode}
 use Rattle.decoder.proofs.said.is_lawful.Statement.{statement}
 use Rattle.decoder.proofs.said.is_lawful.Tie as tie

@@ -2,15 +2,12 @@
 -- Assumes nothing.
 use borrow.Author.Needs.{needs}
 use mathlib.Core.Path.{_≡_, sym, ap, ap₂, _∙_}
-use mathlib.Core.Bool.{true, false}
 use mathlib.Core.List.{List}
-use mathlib.Core.Option.{some, none}
-use Prim.Native.Nat.{ℕ, _≤_}
+use Prim.Native.Nat.{ℕ}
 use native.Mathlib.Omega.{arith}
 use lib.ListN.{length, take}
 use Rattle.stream.specs.Items as items
 use Rattle.symbol.specs.Shapes.{wordSize, words}
-use Rattle.sampling.specs.Sampled.{blockWordsOf, blockMarksOf}
 use Rattle.encoder.specs.EncodeLaws.{words-all}
 use Rattle.decoder.specs.LawfulWords.{length-block-of, length-marks-of}
 use Rattle.decoder.specs.Upright.{readFound, deliverOf}

@@ -10,7 +10,6 @@ use native.Mathlib.Omega.{arith}
 use lib.ListN.{length}
 use Rattle.symbol.specs.Shapes.{Shaped, mostWords}
 use Rattle.symbol.specs.Places.{modeRun}
-use Rattle.decoder.specs.Stages.{saidLayers, saidWords}
 use Rattle.decoder.specs.Said.{Nibbles, said-some, said-shaped, said-most}
 use Rattle.decoder.specs.LawfulWords.{found-nibbles}
 use Rattle.decoder.specs.Upright.{modeOf, readShapeOf, readSaid}

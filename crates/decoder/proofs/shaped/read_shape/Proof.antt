@@ -2,13 +2,11 @@
 -- Assumes nothing.
 use borrow.Author.Needs.{needs}
 use mathlib.Core.Path.{_≡_, sym, ap, _∙_, subst}
-use mathlib.Core.Bool.{true, false}
 use mathlib.Core.List.{List}
-use Prim.Native.Nat.{ℕ, _*_, _+_, _≤_}
+use Prim.Native.Nat.{ℕ, _*_, _≤_}
 use native.Mathlib.Omega.{arith}
 use lib.ListN.{length, take}
 use lib.Seq.{length-take-le}
-use Rattle.symbol.specs.Shapes.{side, words}
 use Rattle.symbol.specs.DataPlaces.{most-layers}
 use Rattle.encoder.specs.EncodeLaws.{words-all}
 use Rattle.decoder.specs.Upright.{lawful-parts, shape-lawful, shape-unlawful}

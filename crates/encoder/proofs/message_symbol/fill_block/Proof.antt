@@ -1,7 +1,7 @@
 -- The words at the front are the message's, and the check words are theirs.
 -- Assumes nothing.
 use borrow.Author.Needs.{needs}
-use mathlib.Core.Path.{_≡_, refl, subst, sym, ap, _∙_}
+use mathlib.Core.Path.{_≡_, subst, sym, ap, _∙_}
 use mathlib.Core.List.{List}
 use Prim.Native.Nat.{ℕ, _^_, _<_}
 use native.Mathlib.Omega.{arith}
@@ -15,7 +15,7 @@ use Rattle.stream.specs.Stuffing.{stuff}
 use Rattle.symbol.specs.Shapes.{wordSize, words, word-size-range}
 use Rattle.symbol.specs.ShapeTable.{words-fit}
 use Rattle.encoder.specs.Plan.{dataWords}
-use Rattle.encoder.specs.Fitting.{Fitting, size-is, data-words, block-filled, front-written}
+use Rattle.encoder.specs.Fitting.{size-is, data-words, block-filled, front-written}
 use Rattle.encoder.proofs.message_symbol.fill_block.Statement.{statement}
 use Rattle.encoder.proofs.message_symbol.fill_block.Tie as tie
 

@@ -2,13 +2,13 @@
 -- Assumes nothing.
 use borrow.Author.Needs.{needs}
 use mathlib.Core.Path.{_≡_, refl, sym, ap, _∙_}
-use mathlib.Core.Bool.{true, false}
+use mathlib.Core.Bool.{true}
 use mathlib.Core.List.{List}
 use Prim.Native.Nat.{ℕ, _+_, _*_, _-_, _/_, _%_}
 use native.Mathlib.Omega.{arith}
 use lib.ListN.{length, take, set, length-set}
 use Rattle.symbol.specs.Places.{modeRun}
-use Rattle.encoder.specs.ModeMessage.{modeData, modeChecks, modeWords}
+use Rattle.encoder.specs.ModeMessage.{modeData, modeChecks}
 use Rattle.encoder.specs.ModeLaws.{stored-four, four-words, mode-filled, length-mode-words}
 use Rattle.encoder.proofs.mode.fill_full.Statement.{statement}
 use Rattle.encoder.proofs.mode.fill_full.Tie as tie

@@ -1,10 +1,9 @@
 -- The two families.
 -- Assumes nothing.
 use borrow.Author.Needs.{needs}
-use mathlib.Core.Path.{_≡_, refl, subst, sym, ap, _∙_}
-use mathlib.Core.Bool.{Bool, true, false}
-use Prim.Native.Nat.{ℕ, _≤_}
-use lib.ListN.{length}
+use mathlib.Core.Path.{subst, sym, ap, _∙_}
+use mathlib.Core.Bool.{Bool}
+use Prim.Native.Nat.{_≤_}
 use Rattle.symbol.specs.Shapes.{mostWords, mostLayers}
 use Rattle.symbol.specs.Places.{modeRun}
 use Rattle.encoder.specs.ModeMessage.{modeWords}

@@ -1,8 +1,8 @@
 -- The tests of `fits`, and that nothing runs over.
 -- Assumes nothing.
 use borrow.Author.Needs.{needs}
-use mathlib.Core.Path.{_≡_, refl, sym, ap}
-use Prim.Native.Nat.{ℕ, _+_, _*_, _≤_}
+use mathlib.Core.Path.{sym, ap}
+use Prim.Native.Nat.{_*_, _≤_}
 use native.Mathlib.Omega.{arith}
 use Rattle.symbol.specs.Shapes.{mostWords}
 use Rattle.encoder.specs.Plan.{leastCheck}

@@ -4,9 +4,8 @@ use borrow.Author.Needs.{needs}
 use mathlib.Core.Path.{ap₂}
 use Prim.Native.Nat.{ℕ, _-_}
 use native.Mathlib.Omega.{arith}
-use Rattle.symbol.specs.Shapes.{side, words}
+use Rattle.symbol.specs.Shapes.{side}
 use Rattle.encoder.specs.PlanLaws.{words-most, sides-most}
-use Rattle.encoder.specs.declared.Encoded.{Encoded}
 use Rattle.encoder.proofs.planning.planned.Statement.{statement}
 use Rattle.encoder.proofs.planning.planned.Tie as tie
 
