@@ -15,6 +15,7 @@ pub mod small;
 pub mod tags;
 #[cfg(stream_c)]
 pub mod text;
+pub mod timed;
 pub mod unlawful;
 pub mod walks;
 

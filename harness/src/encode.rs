@@ -6,3 +6,4 @@ pub mod compare;
 pub mod draw;
 #[cfg(test)]
 mod stand_ins;
+pub mod timed;

@@ -11,6 +11,7 @@
 //! `harness compare-listing PROGRAM [--seed N] [--count N]` and `harness bench-listing PROGRAM`
 //! run the print run's program; `harness own-listing [FILE]` lists by the harness's own maker.
 //! `harness draw-list FOLDER [--own]` draws 300 symbols for another reader.
+//! `harness draw-timed FOLDER` draws the symbols that the programs in `peers/` are timed on.
 //! `harness soak SECONDS [--seed N]` compares corrector, maker and reader for a time, with a
 //! fresh seed unless one is given.
 
@@ -39,7 +40,7 @@ const USAGE: &str = "usage: harness compare [--seed N] [--count N] | harness ben
        harness compare-decode [--seed N] [--count N] | harness bench-decode
        harness compare-listing PROGRAM [--seed N] [--count N] | harness bench-listing PROGRAM
        harness own-listing [FILE] | harness draw-list FOLDER [--own]
-       harness soak SECONDS [--seed N]";
+       harness draw-timed FOLDER | harness soak SECONDS [--seed N]";
 const SEED: u64 = 24_778;
 
 /// How many cases by chance, where `--count` doesn't say: blocks or messages for the corrector
@@ -76,6 +77,7 @@ fn main() -> ExitCode {
         ["own-listing", file] => listing::own::run(Some(file)),
         ["draw-list", folder] => encode::draw::run(folder, false),
         ["draw-list", folder, "--own"] => encode::draw::run(folder, true),
+        ["draw-timed", folder] => encode::timed::run(folder),
         ["soak", seconds] => soaked(seconds, None),
         ["soak", seconds, "--seed", seed] => soaked(seconds, Some(seed)),
         _ => usage(),

@@ -2,7 +2,8 @@
 
 use super::calls::{encoded, with_library, Due, Encode};
 use crate::cases::kinds::mixed;
-use crate::symbol::{fit, shape};
+use crate::cases::timed::longest;
+use crate::symbol::shape;
 use crate::times::Times;
 use std::hint::black_box;
 use std::process::ExitCode;
@@ -24,16 +25,6 @@ pub fn run() -> ExitCode {
         }
         ExitCode::from(u8::from(!right))
     })
-}
-
-/// The longest beginning that a shape up to `number` takes; longer ones take no fewer words.
-fn longest(message: &[u8], percent: u32, number: usize) -> &[u8] {
-    let lengths: Vec<usize> = (1..=message.len()).collect();
-    let goes_in = |&len: &usize| {
-        let fit = fit(&message[..len], percent);
-        fit.is_ok_and(|fit| fit.shape.number() <= number)
-    };
-    &message[..lengths.partition_point(goes_in)]
 }
 
 /// Prints two lines; whether the answers were right.
