@@ -16,6 +16,8 @@ import subprocess
 import sys
 import tempfile
 
+from programs import all_there
+
 READER = "ZXingReader"
 MAKER = "zint"
 HARNESS = pathlib.Path(__file__).parent.parent / "harness/target/release/harness"
@@ -127,10 +129,8 @@ def main(arguments):
     harness, *more = [word for word in arguments if word != "--own"] or [HARNESS]
     if more or str(harness).startswith("-"):
         sys.exit(__doc__)
-    for program, how in [(READER, "Debian: zxing-cpp-tools"), (harness, "cargo build --release --offline in harness/")]:
-        if not shutil.which(program):
-            print(f"{program} is missing ({how})", file=sys.stderr)
-            return 2
+    if not all_there((READER, "Debian: zxing-cpp-tools"), (harness, "cargo build --release --offline in harness/")):
+        return 2
     with tempfile.TemporaryDirectory() as folder:
         return compare(harness, pathlib.Path(folder), options)
 

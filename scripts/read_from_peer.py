@@ -7,10 +7,11 @@ position, counts and message have to be as made. Last line: `300 read, N differ`
 """
 import pathlib
 import random
-import shutil
 import subprocess
 import sys
 import tempfile
+
+from programs import all_there
 
 MAKER = "zint"
 READ_TAG = pathlib.Path(__file__).parent.parent / "target/bin/read_tag"
@@ -124,10 +125,8 @@ def main(arguments):
     read_tag, *more = arguments or [READ_TAG]
     if more or str(read_tag).startswith("-"):
         sys.exit(__doc__)
-    for program, how in [(MAKER, "Debian: zint"), (read_tag, "rt check read_tag")]:
-        if not shutil.which(program):
-            print(f"{program} is missing ({how})", file=sys.stderr)
-            return 2
+    if not all_there((MAKER, "Debian: zint"), (read_tag, "rt check read_tag")):
+        return 2
     listed = list(tags())
     differ = [found for tag in listed if (found := difference(read_tag, *tag))]
     for line in differ:

@@ -27,7 +27,12 @@ pub fn run(folder: &str, own: bool) -> ExitCode {
         eprintln!("built without aztec_encode: libaztec_c.a doesn't define it (--own draws)");
         return ExitCode::from(2);
     }
-    match drawn(Path::new(folder), maker) {
+    ended(folder, drawn(Path::new(folder), maker))
+}
+
+/// Says how many symbols were written to a folder, or what went wrong.
+pub fn ended(folder: &str, written: io::Result<usize>) -> ExitCode {
+    match written {
         Ok(count) => {
             println!("{count} symbols in {folder}");
             ExitCode::SUCCESS

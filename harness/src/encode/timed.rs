@@ -1,5 +1,6 @@
 //! Writes the symbols that library and peers are timed on, for the programs in `peers/`.
 
+use super::draw;
 use crate::cases::timed::{self, Timed, PERCENT};
 use crate::symbol::shape::Family;
 use std::fs;
@@ -10,16 +11,7 @@ use std::process::ExitCode;
 /// Writes `NAME.pbm` and `NAME.bytes` for each, and `list.txt`, a line for each; all by the
 /// harness's own maker.
 pub fn run(folder: &str) -> ExitCode {
-    match written(Path::new(folder)) {
-        Ok(count) => {
-            println!("{count} symbols in {folder}");
-            ExitCode::SUCCESS
-        }
-        Err(fault) => {
-            eprintln!("{folder}: {fault}");
-            ExitCode::FAILURE
-        }
-    }
+    draw::ended(folder, written(Path::new(folder)))
 }
 
 fn written(folder: &Path) -> io::Result<usize> {
@@ -31,14 +23,14 @@ fn written(folder: &Path) -> io::Result<usize> {
         fs::write(file("pbm"), image)?;
         fs::write(file("bytes"), &case.message)?;
     }
-    let lines: String = list.iter().map(told).collect();
+    let lines: String = list.iter().map(line).collect();
     fs::write(folder.join("list.txt"), lines)?;
     Ok(list.len())
 }
 
 /// Name, percentage, whether compact, layers, data words, wrong words: bare numbers, for
 /// programs in four languages.
-fn told(case: &Timed) -> String {
+fn line(case: &Timed) -> String {
     let sheet = &case.sheet;
     let compact = u8::from(sheet.shape.family == Family::Compact);
     let (layers, data_words) = (sheet.shape.layers, sheet.data_words);
