@@ -114,7 +114,7 @@ def difference(read_tag, number, kind, position):
     message, rows = made(number, kind)
     grid = "\n".join(placed(rows, position)) + "\n"
     done = subprocess.run([read_tag], input=grid.encode(), capture_output=True)
-    first = f"{shape_name(number)}, position {position}, 0 words unread, 0 words wrong, {len(message)} bytes"
+    first = f"{shape_name(number)}, position {position}, unread words 0, wrong words 0, bytes {len(message)}"
     if done.stdout == first.encode() + b"\n" + message + b"\n":
         return None
     said = done.stdout.split(b"\n", 1)[0].decode(errors="replace")

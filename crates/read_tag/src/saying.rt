@@ -59,16 +59,16 @@ fn write_answer(answer: Decoded) -> bool {
     if !write_field(b", position ", answer.position) {
         return false;
     }
-    if !write_field(b", ", answer.unread) {
+    if !write_field(b", unread words ", answer.unread) {
         return false;
     }
-    if !write_field(b" words unread, ", answer.wrong) {
+    if !write_field(b", wrong words ", answer.wrong) {
         return false;
     }
-    if !write_field(b" words wrong, ", answer.length) {
+    if !write_field(b", bytes ", answer.length) {
         return false;
     }
-    io::write_all(STDOUT_FILENO, b" bytes\n")
+    io::write_all(STDOUT_FILENO, b"\n")
 }
 
 // Whether all was written.
