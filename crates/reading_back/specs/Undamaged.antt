@@ -29,7 +29,7 @@ use Rattle.encoder.specs.ModeLaws.{mode-valid}
 use Rattle.encoder.specs.Encode.{block}
 use Rattle.encoder.specs.EncodeLaws.{Answered}
 use Rattle.encoder.specs.Fitting.{size-is, block-valid}
-use Rattle.decoder.specs.Stages.{modeWordsIn, modeMarksIn, blockMark, blockWordsIn, blockMarksIn}
+use Rattle.decoder.specs.Stages.{modeWordsIn, modeMarksIn, blockMark, blockWordsIn, blockMarksIn, unreadWords, wrongWords}
 use Rattle.decoder.specs.Decode.{decodeOf}
 use Rattle.reading_back.specs.DamagedTag.{Within}
 use Rattle.reading_back.specs.ReadsBack.{full, L, n, D, K, madeTag, spoilt, Shows, readBack, known, made-symbol, reads-back}
@@ -192,12 +192,27 @@ module _ (message : List ℕ) (percent : ℕ) (x : Bytes message) (made : planOf
       shown-block-word f ls (answer .fits .shaped) ms ws p w h
       (subst (λ b. getD ws w 0 < 2 ^ b) (size-is ls) (block-valid message f ls .words w))
 
+  word-read : (w : ℕ) → w < words f ls → unread (wordSize ls) (blockModule f ls p shown w) ≡ 0
+  word-read w h = shown-block-read f ls (answer .fits .shaped) ms ws p w h
+
+  -- no word is unread, and none is wrong
+  pub none-unread : unreadWords f ls p (madeTag message percent p) ≡ 0
+  unfolding unreadWords
+  none-unread = ap (unreadWords f ls p) tag-is ∙ count-zero (words f ls) _ (λ w h. ap (λ k. eqb k 1) (word-read w h))
+
+  pub none-wrong : wrongWords f ls p (madeTag message percent p) ws ≡ 0
+  unfolding wrongWords
+  none-wrong =
+      ap (λ g. wrongWords f ls p g ws) tag-is
+      ∙ count-zero (words f ls) _ (λ w h.
+      ap₂ (λ a b. not a && not b) (ap (λ k. eqb k 1) (word-read w h)) (eq-eqb (blockWord f ls p shown w) (getD ws w 0) (word-is w h)))
+
   unmarked : (w : ℕ) → w < words f ls → blockMark f ls ds p shown w ≡ 0
   unfolding blockMark
   unmarked w h = go (ltb w ds) refl
     where
       clear : unread (wordSize ls) (blockModule f ls p shown w) ≡ 0
-      clear = shown-block-read f ls (answer .fits .shaped) ms ws p w h
+      clear = word-read w h
 
       uneven : w < ds → flat (wordSize ls) (blockWord f ls p shown w) ≡ false
       uneven l =
