@@ -10,7 +10,7 @@ use Rattle.list_laws.specs.Filled.{tabulate, length-tabulate, getD-tabulate}
 use Rattle.list_laws.specs.Range.{count, count-same}
 use Rattle.symbol.specs.Shapes.{wordSize, words}
 use Rattle.symbol.specs.GridWords.{unread, blockModule, blockWord}
-use Rattle.decoder.specs.Stages.{unreadWords, wrongWords}
+use Rattle.recovery.specs.Stages.{unreadWords, wrongWords}
 
 abbrev pub isUnread : List ℕ → ℕ → Bool
 isUnread marks w = eqb (getD marks w 0) 1

@@ -12,8 +12,8 @@ use Rattle.symbol.specs.Shapes.{wordSize, numberOf}
 use Rattle.orientation.specs.Sides.{isSide}
 use Rattle.orientation.specs.Family.{looksFull}
 use Rattle.orientation.specs.Position.{position}
+use Rattle.recovery.specs.Stages.{lawfulModules, modeIn, saidLayers, saidWords, lawfulMode, blockIn, unreadWords, wrongWords}
 use Rattle.decoder.specs.declared.Decoded.{Decoded}
-use Rattle.decoder.specs.Stages.{lawfulModules, modeIn, saidLayers, saidWords, lawfulMode, blockIn, unreadWords, wrongWords}
 
 pub record Result : Type 0 where
   pub answer : Decoded

@@ -1,12 +1,8 @@
-pub mod Stages
 pub mod Rooms
-pub mod Said
 pub mod Counts
 pub mod MessageLength
 pub mod Decode
 pub mod Saying
-pub mod Correcting
 pub mod Upright
 pub mod GridLaws
-pub mod LawfulWords
 pub mod UprightLaws

@@ -17,7 +17,7 @@ use Rattle.symbol.specs.GridWords.{unread}
 use Rattle.sampling.specs.Sampled.{modeWordsOf, modeMarksOf, blockWordsOf, blockMarksOf}
 use Rattle.sampling.specs.Flat.{flatMarked}
 use Rattle.encoder.specs.ModeMessage.{modeChecks}
-use Rattle.decoder.specs.Stages.{saidLayers, saidWords, lawfulMode}
+use Rattle.recovery.specs.Stages.{saidLayers, saidWords, lawfulMode}
 use Rattle.decoder.specs.Counts.{unreadOf, wrongOf}
 use Rattle.decoder.specs.Saying.{Says}
 use Rattle.decoder.specs.Decode.{Result, refused}

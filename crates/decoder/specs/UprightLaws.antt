@@ -18,11 +18,11 @@ use Rattle.symbol.specs.GridWords.{moduleAt, unread, blockModule, blockWord}
 use Rattle.sampling.specs.Sampled.{blockWordsOf, blockMarksOf, tabulate-same, mode-words-upright, mode-marks-upright, block-words-upright, block-marks-upright}
 use Rattle.sampling.specs.Flat.{flatMarked}
 use Rattle.encoder.specs.ModeMessage.{modeChecks}
-use Rattle.decoder.specs.Stages.{modeWordsIn, modeMarksIn, modeIn, saidLayers, saidWords, lawfulMode, blockWordsIn, blockMark, blockMarksIn, blockIn}
-use Rattle.decoder.specs.Said.{said-shaped}
+use Rattle.recovery.specs.Stages.{modeWordsIn, modeMarksIn, modeIn, saidLayers, saidWords, lawfulMode, blockWordsIn, blockMark, blockMarksIn, blockIn}
+use Rattle.recovery.specs.Said.{said-shaped}
+use Rattle.recovery.specs.LawfulWords.{found-nibbles}
 use Rattle.decoder.specs.Counts.{unread-of, wrong-of}
 use Rattle.decoder.specs.Decode.{Result, refused, deliver, readStream, readBlock, readShape, readMode}
-use Rattle.decoder.specs.LawfulWords.{found-nibbles}
 use Rattle.decoder.specs.Upright.{deliverOf, blockOf, readFound, readShapeOf, modeOf, readSaid, lawful-parts}
 
 module _ (n p : ℕ) (g before : List ℕ) (room : n * n ≤ length before) {u : List ℕ} (made : u ≡ writes before (λ k. k) (moduleAt n p g) (n * n))

@@ -12,7 +12,7 @@ ghost use mathlib.Core.Path.{_≡_};
 ghost use Prim.Native.Nat.{_*_, _≤_, _<_};
 ghost use lib.ListN.{length};
 ghost use Rattle.symbol.specs.Shapes.{core};
-ghost use Rattle.decoder.specs.Stages.{modeIn};
+ghost use Rattle.recovery.specs.Stages.{modeIn};
 ghost use Rattle.decoder.specs.Decode as spec;
 ghost use Rattle.decoder.specs.Rooms.{Rooms};
 

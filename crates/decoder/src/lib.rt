@@ -2,11 +2,9 @@
 ghost use mathlib.Core.Path.{_≡_};
 ghost use Rattle.decoder.specs.Decode.{decodeOf};
 
-pub mod correcting;
 pub mod counts;
 pub mod delivering;
 pub mod grid;
-pub mod said;
 pub mod shaped;
 
 // What the decoder answers: a number, and after 0 the message's length, the shape's number, the position, and the two counts. Any other

@@ -1,8 +1,8 @@
 // From an upright grid to the answer: mode words, shape, block.
 use crate::Decoded;
-use crate::correcting;
 use crate::delivering;
-use crate::said;
+use recovery::correcting;
+use recovery::said;
 use symbol::places;
 use symbol::shapes;
 ghost use mathlib.Core.Path.{_≡_};

@@ -14,7 +14,7 @@ use Rattle.symbol.specs.Shapes.{wordSize}
 use Rattle.orientation.specs.Sides.{isSide}
 use Rattle.orientation.specs.Family.{looksFull}
 use Rattle.orientation.specs.Position.{position}
-use Rattle.decoder.specs.Stages.{lawfulModules, modeIn, saidLayers, saidWords, lawfulMode, blockIn}
+use Rattle.recovery.specs.Stages.{lawfulModules, modeIn, saidLayers, saidWords, lawfulMode, blockIn}
 use Rattle.decoder.specs.Decode.{Result, refused, deliver, readStream, readBlock, readShape, readMode, readIn, readGrid, decodeOf}
 use Rattle.grid_text.specs.Border.{lightRing}
 use Rattle.read_tag.specs.Within.{toldAt, readInside, readFrom, readWithin}

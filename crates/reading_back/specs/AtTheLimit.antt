@@ -34,7 +34,7 @@ use Rattle.encoder.specs.declared.Encoded.{Encoded}
 use Rattle.encoder.specs.Plan.{refused, dataWords, leastCheck, fits, listed, fitsListed, planned, planOf}
 use Rattle.encoder.specs.ModeMessage.{modeData, modeChecks, modeWords}
 use Rattle.encoder.specs.Encode.{block, drawnMessage, encodeOf}
-use Rattle.decoder.specs.Stages.{modeWordsIn, modeMarksIn, blockMark, blockWordsIn, blockMarksIn, unreadWords, wrongWords}
+use Rattle.recovery.specs.Stages.{modeWordsIn, modeMarksIn, blockMark, blockWordsIn, blockMarksIn, unreadWords, wrongWords}
 use Rattle.decoder.specs.Decode.{Result, decodeOf}
 use Rattle.reading_back.specs.ReadsBack.{full, L, n, D, K, madeTag, spoilt, Shows, readBack, reads-back}
 

@@ -20,7 +20,7 @@ use Rattle.encoder.specs.Plan.{planOf}
 use Rattle.encoder.specs.ModeMessage.{modeChecks, modeWords}
 use Rattle.encoder.specs.Encode.{block, drawnMessage, encodeOf}
 use Rattle.encoder.specs.EncodeLaws.{encode-made, Answered, answered}
-use Rattle.decoder.specs.Stages.{modeWordsIn, modeMarksIn, blockWordsIn, blockMarksIn, unreadWords, wrongWords}
+use Rattle.recovery.specs.Stages.{modeWordsIn, modeMarksIn, blockWordsIn, blockMarksIn, unreadWords, wrongWords}
 use Rattle.decoder.specs.Decode.{Result, decodeOf}
 use Rattle.reading_back.specs.DamagedTag.{Within, tag-read}
 

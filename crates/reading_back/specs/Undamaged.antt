@@ -29,7 +29,7 @@ use Rattle.encoder.specs.ModeLaws.{mode-valid}
 use Rattle.encoder.specs.Encode.{block}
 use Rattle.encoder.specs.EncodeLaws.{Answered}
 use Rattle.encoder.specs.Fitting.{size-is, block-valid}
-use Rattle.decoder.specs.Stages.{modeWordsIn, modeMarksIn, blockMark, blockWordsIn, blockMarksIn, unreadWords, wrongWords}
+use Rattle.recovery.specs.Stages.{modeWordsIn, modeMarksIn, blockMark, blockWordsIn, blockMarksIn, unreadWords, wrongWords}
 use Rattle.decoder.specs.Decode.{decodeOf}
 use Rattle.reading_back.specs.DamagedTag.{Within}
 use Rattle.reading_back.specs.ReadsBack.{full, L, n, D, K, madeTag, spoilt, Shows, readBack, known, made-symbol, reads-back}

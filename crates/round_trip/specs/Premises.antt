@@ -13,7 +13,7 @@ use Rattle.stream.specs.Below.{Bytes}
 use Rattle.encoder.specs.Plan.{planOf}
 use Rattle.encoder.specs.ModeMessage.{modeChecks, modeWords}
 use Rattle.encoder.specs.Encode.{block}
-use Rattle.decoder.specs.Stages.{modeWordsIn, modeMarksIn, blockWordsIn, blockMarksIn}
+use Rattle.recovery.specs.Stages.{modeWordsIn, modeMarksIn, blockWordsIn, blockMarksIn}
 use Rattle.reading_back.specs.DamagedTag.{Within}
 use Rattle.reading_back.specs.ReadsBack.{full, L, n, D, K, madeTag, spoilt, Shows}
 use Rattle.reading_back.specs.Undamaged.{undamaged}

@@ -21,7 +21,7 @@ use Rattle.stream.specs.Stuffing.{flat, put, fill, finish, stuffFrom, stuff}
 use Rattle.symbol.specs.Shapes as shape
 use Rattle.encoder.specs.Plan.{leastCheck, fits}
 use Rattle.encoder.specs.ModeMessage.{modeData}
-use Rattle.decoder.specs.Stages.{saidLayers, saidWords}
+use Rattle.recovery.specs.Stages.{saidLayers, saidWords}
 
 -- a family is full (true) or compact (false), L its layers
 pub data Case : Type 0 where

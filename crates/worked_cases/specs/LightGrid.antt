@@ -21,7 +21,7 @@ use Rattle.symbol.specs.Shapes.{side, square, bits, wordSize, words, skipped}
 use Rattle.symbol.specs.Places.{turned, domino, layerCell, cell, spread, dataPlace}
 use Rattle.symbol.specs.Positions.{placeIn}
 use Rattle.symbol.specs.GridWords.{value, unread, moduleAt, blockModule, blockWord}
-use Rattle.decoder.specs.Stages.{lawfulMode, blockWordsIn, blockMark, blockMarksIn, blockIn}
+use Rattle.recovery.specs.Stages.{lawfulMode, blockWordsIn, blockMark, blockMarksIn, blockIn}
 use Rattle.decoder.specs.Decode.{refused, readBlock, readShape}
 
 abbrev light : List ℕ

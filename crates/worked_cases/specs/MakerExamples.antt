@@ -21,7 +21,7 @@ use Rattle.encoder.specs.declared.Encoded.{Encoded}
 use Rattle.encoder.specs.Plan.{refused, dataWords, leastCheck, fits, listed, fitsListed, planned, planOf}
 use Rattle.encoder.specs.ModeMessage.{modeData, modeChecks, modeWords}
 use Rattle.encoder.specs.Encode.{result, encodeOf}
-use Rattle.decoder.specs.Stages.{saidLayers, saidWords}
+use Rattle.recovery.specs.Stages.{saidLayers, saidWords}
 
 -- "C1 to C4, then F4 to F32", "numbered 1 to 4 for C1 to C4, 5 to 36 for F1 to F32": the first, the fourth, the fifth and the last
 pub order : map listed (0 ∷ 3 ∷ 4 ∷ 32 ∷ []) ≡ 1 ∷ 4 ∷ 8 ∷ 36 ∷ []

@@ -5,7 +5,7 @@ use mathlib.Core.Path.{_≡_, sym, ap, _∙_}
 use mathlib.Core.Bool.{true}
 use native.Mathlib.Omega.{arith}
 use Rattle.orientation.specs.Sides.{isSide, side-range}
-use Rattle.decoder.specs.Stages.{lawfulModules}
+use Rattle.recovery.specs.Stages.{lawfulModules}
 use Rattle.decoder.specs.Rooms.{area-most}
 use Rattle.decoder.specs.GridLaws.{side-refused, length-refused, module-refused, grid-taken}
 use Rattle.decoder.proofs.grid.decode_in.Statement.{statement}

@@ -9,7 +9,7 @@ use lib.ListN.{length, take}
 use Rattle.stream.specs.Items as items
 use Rattle.symbol.specs.Shapes.{wordSize, words}
 use Rattle.encoder.specs.EncodeLaws.{words-all}
-use Rattle.decoder.specs.LawfulWords.{length-block-of, length-marks-of}
+use Rattle.recovery.specs.LawfulWords.{length-block-of, length-marks-of}
 use Rattle.decoder.specs.Upright.{readFound, deliverOf}
 use Rattle.decoder.proofs.shaped.read_found.Statement.{statement}
 use Rattle.decoder.proofs.shaped.read_found.Tie as tie

@@ -10,8 +10,8 @@ use native.Mathlib.Omega.{arith}
 use lib.ListN.{length}
 use Rattle.symbol.specs.Shapes.{Shaped, mostWords}
 use Rattle.symbol.specs.Places.{modeRun}
-use Rattle.decoder.specs.Said.{Nibbles, said-some, said-shaped, said-most}
-use Rattle.decoder.specs.LawfulWords.{found-nibbles}
+use Rattle.recovery.specs.Said.{Nibbles, said-some, said-shaped, said-most}
+use Rattle.recovery.specs.LawfulWords.{found-nibbles}
 use Rattle.decoder.specs.Upright.{modeOf, readShapeOf, readSaid}
 use Rattle.decoder.proofs.shaped.read_said.Statement.{statement}
 use Rattle.decoder.proofs.shaped.read_said.Tie as tie

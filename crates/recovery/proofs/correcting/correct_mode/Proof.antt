@@ -6,8 +6,8 @@ use Prim.Native.Nat.{_≤_}
 use native.Mathlib.Omega.{arith}
 use lib.Seq.{length-take-le}
 use Rattle.symbol.specs.Places.{run-most}
-use Rattle.decoder.proofs.correcting.correct_mode.Statement.{statement}
-use Rattle.decoder.proofs.correcting.correct_mode.Tie as tie
+use Rattle.recovery.proofs.correcting.correct_mode.Statement.{statement}
+use Rattle.recovery.proofs.correcting.correct_mode.Tie as tie
 
 short : (c : tie.After-mode-run-of) → c .mode-run-of .result ≤ 10
 short c = omega (arith, c .mode-run-of .ensures, run-most (c .before .before .before .args .full))

@@ -5,8 +5,8 @@ use mathlib.Core.Path.{refl}
 use Prim.Native.Nat.{_<_}
 use native.Mathlib.Omega.{arith}
 use lib.ListN.{getD}
-use Rattle.decoder.proofs.said.nibble.Statement.{statement}
-use Rattle.decoder.proofs.said.nibble.Tie as tie
+use Rattle.recovery.proofs.said.nibble.Statement.{statement}
+use Rattle.recovery.proofs.said.nibble.Tie as tie
 
 mul-result : tie.Need-mul-result
 mul-result c = search needs

@@ -5,10 +5,10 @@ use mathlib.Core.Path.{ap, ap₂, _∙_}
 use Rattle.reed_solomon.specs.Correct.{correctOf}
 use Rattle.sampling.specs.Sampled.{modeWordsOf, modeMarksOf}
 use Rattle.encoder.specs.ModeMessage.{modeChecks}
-use Rattle.decoder.specs.Correcting.{corrected-by}
-use Rattle.decoder.specs.LawfulWords.{mode-lawful, length-mode-of}
-use Rattle.decoder.proofs.correcting.correct_mode_with.Statement.{statement}
-use Rattle.decoder.proofs.correcting.correct_mode_with.Tie as tie
+use Rattle.recovery.specs.Correcting.{corrected-by}
+use Rattle.recovery.specs.LawfulWords.{mode-lawful, length-mode-of}
+use Rattle.recovery.proofs.correcting.correct_mode_with.Statement.{statement}
+use Rattle.recovery.proofs.correcting.correct_mode_with.Tie as tie
 
 read-mode-requires : tie.Need-read-mode-requires
 read-mode-requires c κs = search needs

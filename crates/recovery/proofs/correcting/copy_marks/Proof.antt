@@ -5,8 +5,8 @@ use Prim.Native.Nat.{_-_, _≤_}
 use native.Mathlib.Omega.{arith}
 use lib.ListN.{length, getD}
 use Rattle.list_laws.specs.Filled.{tabulate, tabulate-getD, filled, filled-none, filled-step, filled-all, length-filled}
-use Rattle.decoder.proofs.correcting.copy_marks.Statement.{statement}
-use Rattle.decoder.proofs.correcting.copy_marks.Tie as tie
+use Rattle.recovery.proofs.correcting.copy_marks.Statement.{statement}
+use Rattle.recovery.proofs.correcting.copy_marks.Tie as tie
 
 abbrev Inv-loop : tie.InvT-loop
 Inv-loop from to₀ i₀ to i = (i ≤ length from) × (to ≡ filled (λ k. getD from k 0) i to₀)

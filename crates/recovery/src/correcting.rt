@@ -14,7 +14,7 @@ ghost use Rattle.symbol.specs.Drawing.{area};
 ghost use Rattle.sampling.specs.Sampled.{modeWordsOf, modeMarksOf, blockWordsOf, blockMarksOf};
 ghost use Rattle.sampling.specs.Flat.{flatMarked};
 ghost use Rattle.encoder.specs.ModeMessage.{modeChecks};
-ghost use Rattle.decoder.specs.Correcting.{Corrected};
+ghost use Rattle.recovery.specs.Correcting.{Corrected};
 
 fn mode_checks_of(full: bool) -> usize
     ensures { λ r. ⌜ r ≡ modeChecks full ⌝ }

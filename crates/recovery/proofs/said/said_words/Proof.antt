@@ -2,9 +2,9 @@
 -- Assumes nothing.
 use borrow.Author.Needs.{needs}
 use native.Mathlib.Omega.{arith}
-use Rattle.decoder.specs.Stages.{saidWords}
-use Rattle.decoder.proofs.said.said_words.Statement.{statement}
-use Rattle.decoder.proofs.said.said_words.Tie as tie
+use Rattle.recovery.specs.Stages.{saidWords}
+use Rattle.recovery.proofs.said.said_words.Statement.{statement}
+use Rattle.recovery.proofs.said.said_words.Tie as tie
 
 nibble-requires : tie.Need-nibble-requires
 nibble-requires c κs = search needs

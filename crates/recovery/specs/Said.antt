@@ -6,7 +6,7 @@ use Prim.Native.Nat.{ℕ, _≤_, _<_}
 use native.Mathlib.Omega.{arith}
 use lib.ListN.{getD}
 use Rattle.symbol.specs.Shapes.{mostWords, mostLayers, Shaped}
-use Rattle.decoder.specs.Stages.{saidLayers, saidWords}
+use Rattle.recovery.specs.Stages.{saidLayers, saidWords}
 
 -- the words that say L and D are of 4 bits
 abbrev pub Nibbles : List ℕ → Type 0

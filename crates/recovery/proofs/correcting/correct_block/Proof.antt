@@ -9,10 +9,10 @@ use Rattle.reed_solomon.specs.Correct.{correctOf}
 use Rattle.symbol.specs.Shapes.{wordSize, words, word-size-range}
 use Rattle.sampling.specs.Sampled.{blockWordsOf, blockMarksOf}
 use Rattle.sampling.specs.Flat.{flatMarked}
-use Rattle.decoder.specs.Correcting.{corrected-by}
-use Rattle.decoder.specs.LawfulWords.{block-lawful, length-block-of, length-marks-of}
-use Rattle.decoder.proofs.correcting.correct_block.Statement.{statement}
-use Rattle.decoder.proofs.correcting.correct_block.Tie as tie
+use Rattle.recovery.specs.Correcting.{corrected-by}
+use Rattle.recovery.specs.LawfulWords.{block-lawful, length-block-of, length-marks-of}
+use Rattle.recovery.proofs.correcting.correct_block.Statement.{statement}
+use Rattle.recovery.proofs.correcting.correct_block.Tie as tie
 
 -- the way back from the corrector
 abbrev flattened : tie.After-correct → tie.After-mark-flat

@@ -1,4 +1,4 @@
--- What the corrector's contract says to the decoder, whose arguments are lawful: the nearest block, or none.
+-- What the corrector's contract says to a caller whose arguments are lawful: the nearest block, or none.
 -- Assumes nothing.
 use mathlib.Core.Path.{_≡_, refl, sym, ap, _∙_, subst}
 use mathlib.Core.Bool.{Bool, true, false, cond, _||_}

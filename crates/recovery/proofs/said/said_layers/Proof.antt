@@ -2,9 +2,9 @@
 -- Assumes nothing.
 use borrow.Author.Needs.{needs}
 use native.Mathlib.Omega.{arith}
-use Rattle.decoder.specs.Stages.{saidLayers}
-use Rattle.decoder.proofs.said.said_layers.Statement.{statement}
-use Rattle.decoder.proofs.said.said_layers.Tie as tie
+use Rattle.recovery.specs.Stages.{saidLayers}
+use Rattle.recovery.proofs.said.said_layers.Statement.{statement}
+use Rattle.recovery.proofs.said.said_layers.Tie as tie
 
 nibble-requires : tie.Need-nibble-requires
 nibble-requires c κs = search needs

@@ -2,8 +2,8 @@
 -- Assumes nothing.
 use mathlib.Core.Path.{sym, ap}
 use Rattle.encoder.specs.ModeMessage.{modeChecks}
-use Rattle.decoder.proofs.correcting.mode_checks_of.Statement.{statement}
-use Rattle.decoder.proofs.correcting.mode_checks_of.Tie as tie
+use Rattle.recovery.proofs.correcting.mode_checks_of.Statement.{statement}
+use Rattle.recovery.proofs.correcting.mode_checks_of.Tie as tie
 
 returns : tie.Need-returns
 unfolding modeChecks

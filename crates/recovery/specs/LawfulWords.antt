@@ -23,8 +23,8 @@ use Rattle.sampling.specs.Sampled.{modeModuleOf, blockModuleOf, modeWordsOf, mo
 use Rattle.sampling.specs.Flat.{flatMarked}
 use Rattle.encoder.specs.ModeMessage.{modeChecks}
 use Rattle.encoder.specs.Fitting.{size-is}
-use Rattle.decoder.specs.Said.{Nibbles}
-use Rattle.decoder.specs.Correcting.{Lawful}
+use Rattle.recovery.specs.Said.{Nibbles}
+use Rattle.recovery.specs.Correcting.{Lawful}
 
 -- what holds of every entry of a table, and of 0, holds of every entry, past the end too
 pub table-all : (P : ℕ → Type 0) (f : ℕ → ℕ) (n : ℕ) → P 0 → ((i : ℕ) → P (f i)) → (i : ℕ) → P (getD (tabulate f n) i 0)

@@ -7,9 +7,9 @@ use mathlib.Core.Bool.{_&&_}
 use Prim.Native.Nat.{_+_}
 use lib.Dec.{eqb, leb}
 use Rattle.symbol.specs.Shapes.{words}
-use Rattle.decoder.specs.Stages.{lawfulMode}
-use Rattle.decoder.proofs.said.is_lawful.Statement.{statement}
-use Rattle.decoder.proofs.said.is_lawful.Tie as tie
+use Rattle.recovery.specs.Stages.{lawfulMode}
+use Rattle.recovery.proofs.said.is_lawful.Statement.{statement}
+use Rattle.recovery.proofs.said.is_lawful.Tie as tie
 
 side-of-requires : tie.Need-side-of-requires
 side-of-requires c κs = search needs

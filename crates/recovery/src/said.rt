@@ -3,8 +3,8 @@ use symbol::shapes;
 ghost use mathlib.Core.Path.{_≡_};
 ghost use Prim.Native.Nat.{_≤_, _<_};
 ghost use lib.ListN.{length, getD};
-ghost use Rattle.decoder.specs.Stages.{saidLayers, saidWords, lawfulMode};
-ghost use Rattle.decoder.specs.Said.{Nibbles};
+ghost use Rattle.recovery.specs.Stages.{saidLayers, saidWords, lawfulMode};
+ghost use Rattle.recovery.specs.Said.{Nibbles};
 
 // One of the first four words. It is below 16, so no sum here runs over.
 fn nibble(words: &[u16], i: usize) -> usize

@@ -1,0 +1,4 @@
+pub mod Stages
+pub mod Said
+pub mod Correcting
+pub mod LawfulWords
