@@ -10,11 +10,11 @@ use lib.Dec.{eqb}
 use lib.ListN.{length}
 use borrow.Author.Tests.{eq-eqb, ne-eqb}
 use Rattle.decoder.specs.declared.Decoded.{Decoded}
+use Rattle.decoder.specs.Kept.{Kept, refused-kept, pick, decode-kept}
 use Rattle.grid_text.specs.Border.{innerSide, inner, lightRing}
 use Rattle.grid_text.specs.Grid.{modulesOf}
 use Rattle.read_tag.specs.declared.text.Reading.the-variants.{NoGrid, Tag}
 use Rattle.read_tag.specs.Within.{toldAt, readInside, readFrom, readWithin}
-use Rattle.read_tag.specs.WithinLaws.{Kept, refused-kept, pick, decode-kept}
 use Rattle.read_tag.specs.Text.{textSide, textResult, readingOf, messageOf}
 
 module _ (g : List ℕ) (side : ℕ) (buffer : List ℕ) where

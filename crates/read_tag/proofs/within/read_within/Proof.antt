@@ -7,9 +7,10 @@ use lib.ListN.{length}
 use borrow.Author.Tests.{not-true, not-false}
 use borrow.Author.Needs.{needs}
 use Rattle.decoder.specs.Decode.{refused}
+use Rattle.decoder.specs.Kept.{decode-kept}
 use Rattle.grid_text.specs.Border.{innerSide, inner}
 use Rattle.read_tag.specs.Within.{told, readInside, readFrom, readWithin}
-use Rattle.read_tag.specs.WithinLaws.{decode-kept, whole, none-left, answered, stopped, ring-off}
+use Rattle.read_tag.specs.WithinLaws.{whole, none-left, answered, stopped, ring-off}
 use Rattle.read_tag.proofs.within.read_within.Statement.{statement}
 use Rattle.read_tag.proofs.within.read_within.Tie as tie
 
