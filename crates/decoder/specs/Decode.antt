@@ -9,10 +9,11 @@ use lib.Dec.{eqb, leb}
 use lib.ListN.{length, take, drop}
 use Rattle.stream.specs.Items as items
 use Rattle.symbol.specs.Shapes.{wordSize, numberOf}
+use Rattle.orientation.specs.Modules.{lawfulModules}
 use Rattle.orientation.specs.Sides.{isSide}
 use Rattle.orientation.specs.Family.{looksFull}
 use Rattle.orientation.specs.Position.{position}
-use Rattle.recovery.specs.Stages.{lawfulModules, modeIn, saidLayers, saidWords, lawfulMode, blockIn, unreadWords, wrongWords}
+use Rattle.recovery.specs.Stages.{modeIn, saidLayers, saidWords, lawfulMode, blockIn, unreadWords, wrongWords}
 use Rattle.decoder.specs.declared.Decoded.{Decoded}
 
 pub record Result : Type 0 where

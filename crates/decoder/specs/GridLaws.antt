@@ -9,11 +9,12 @@ use Prim.Native.Nat.{ℕ, _*_, _≤_, _<_}
 use native.Mathlib.Omega.{arith}
 use lib.ListN.{length}
 use borrow.Author.Tests.{eq-eqb, ne-eqb}
+use Rattle.orientation.specs.Modules.{lawfulModules}
 use Rattle.orientation.specs.Sides.{isSide}
 use Rattle.orientation.specs.Family.{looksFull}
 use Rattle.orientation.specs.Position.{position, positionNumber}
 use Rattle.orientation.specs.PositionLaws.{found-best}
-use Rattle.recovery.specs.Stages.{lawfulModules, modeIn}
+use Rattle.recovery.specs.Stages.{modeIn}
 use Rattle.decoder.specs.Decode.{refused, readMode, readIn, readGrid, decodeOf}
 
 module _ (g buffer : List ℕ) (n : ℕ) {f : Bool} (family : f ≡ looksFull n g) {t : ℕ} (is : t ≡ positionNumber (position f n g)) where

@@ -11,10 +11,11 @@ use lib.ListN.{length, take}
 use borrow.Author.Tests.{leb-true}
 use Rattle.stream.specs.Items as items
 use Rattle.symbol.specs.Shapes.{wordSize}
+use Rattle.orientation.specs.Modules.{lawfulModules}
 use Rattle.orientation.specs.Sides.{isSide}
 use Rattle.orientation.specs.Family.{looksFull}
 use Rattle.orientation.specs.Position.{position}
-use Rattle.recovery.specs.Stages.{lawfulModules, modeIn, saidLayers, saidWords, lawfulMode, blockIn}
+use Rattle.recovery.specs.Stages.{modeIn, saidLayers, saidWords, lawfulMode, blockIn}
 use Rattle.decoder.specs.Decode.{Result, refused, deliver, readStream, readBlock, readShape, readMode, readIn, readGrid, decodeOf}
 
 -- the message fits its buffer, and a refusal leaves the buffer as it was

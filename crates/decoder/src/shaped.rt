@@ -3,7 +3,6 @@ use crate::Decoded;
 use crate::delivering;
 use recovery::correcting;
 use recovery::said;
-use symbol::places;
 use symbol::shapes;
 ghost use mathlib.Core.Path.{_≡_};
 ghost use Prim.Native.Nat.{_*_, _+_, _≤_, _<_};

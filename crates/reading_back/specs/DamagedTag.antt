@@ -31,6 +31,7 @@ use Rattle.symbol.specs.Drawing.{symbol, orientationBits, drawn-orientation}
 use Rattle.symbol.specs.Positions.{placeIn, placed, placed-at}
 use Rattle.symbol.specs.ShapeTable.{words-fit}
 use Rattle.symbol.specs.GridWords.{value, value-lt, modeWord, blockModule, blockWord}
+use Rattle.orientation.specs.Modules.{lawfulModules}
 use Rattle.orientation.specs.Sides.{side-of-shape}
 use Rattle.orientation.specs.Family.{looksFull, looks-compact, looks-full}
 use Rattle.orientation.specs.Position.{matches, position}
@@ -40,7 +41,7 @@ use Rattle.encoder.specs.ModeMessage.{modeData, modeChecks, modeWords}
 use Rattle.encoder.specs.ModeLaws.{length-mode-words, mode-valid}
 use Rattle.encoder.specs.Encode.{block}
 use Rattle.encoder.specs.Fitting.{Fitting, size-is, block-valid, length-block}
-use Rattle.recovery.specs.Stages.{lawfulModules, modeWordsIn, modeMarksIn, modeIn, saidLayers, saidWords, lawfulMode, blockWordsIn, blockMarksIn, blockIn, unreadWords, wrongWords}
+use Rattle.recovery.specs.Stages.{modeWordsIn, modeMarksIn, modeIn, saidLayers, saidWords, lawfulMode, blockWordsIn, blockMarksIn, blockIn, unreadWords, wrongWords}
 use Rattle.decoder.specs.Decode.{refused, delivered, deliver, readStream, readBlock, readShape, readMode, readIn, readGrid, decodeOf}
 
 -- "within the limit if 2r + e is at most its K, with e of its words marked and r of the rest unlike the made words"

@@ -1,14 +1,14 @@
 -- How a grid is read (document 01, "How a grid is read"), from mode words on: a definition for each stage, over a grid of side n in
--- position p. `orientation` has the stages before: family and position.
+-- position p. `orientation` has the stages before: side, modules, family and position.
 -- Assumes nothing.
 use mathlib.Core.Bool.{Bool, true, false, not, cond, _&&_}
 use mathlib.Core.List.{List}
 use mathlib.Core.Option.{Option}
 use Prim.Native.Nat.{ℕ, _+_, _*_, _-_, _/_, _%_}
 use lib.Dec.{eqb, leb, ltb}
-use lib.ListN.{length, getD}
+use lib.ListN.{getD}
 use Rattle.list_laws.specs.Filled.{tabulate}
-use Rattle.list_laws.specs.Range.{count, all}
+use Rattle.list_laws.specs.Range.{count}
 use Rattle.finite_field.specs.Field.{sizeOf}
 use Rattle.reed_solomon.specs.Nearest.{nearest}
 use Rattle.stream.specs.Stuffing.{flat}
@@ -16,10 +16,6 @@ use Rattle.symbol.specs.Shapes.{side, wordSize, words}
 use Rattle.symbol.specs.Places.{modeRun}
 use Rattle.symbol.specs.GridWords.{unread, modeModule, blockModule, modeWord, blockWord}
 use Rattle.encoder.specs.ModeMessage.{modeChecks}
-
--- not 13: no module is above 2
-unfoldable pub lawfulModules : List ℕ → Bool
-lawfulModules g = all (length g) (λ k. leb (getD g k 0) 2)
 
 -- Step 3: "Mode words, then data words, go to the corrector. A word with an unread module is marked"
 unfoldable pub modeWordsIn : Bool → ℕ → ℕ → List ℕ → List ℕ

@@ -15,10 +15,11 @@ use Rattle.symbol.specs.Drawing.{orientationBits}
 use Rattle.symbol.specs.Positions.{placeIn}
 use Rattle.symbol.specs.GridWords.{value, unread, moduleAt, blockModule, blockWord}
 use Rattle.sampling.specs.Flat.{flatMarked}
+use Rattle.orientation.specs.Modules.{lawfulModules}
 use Rattle.orientation.specs.Sides.{hasSide, isSide}
 use Rattle.orientation.specs.Family.{looksFull}
 use Rattle.orientation.specs.Position.{matches, single, position}
-use Rattle.recovery.specs.Stages.{lawfulModules, lawfulMode, blockMark, blockMarksIn, unreadWords, wrongWords}
+use Rattle.recovery.specs.Stages.{lawfulMode, blockMark, blockMarksIn, unreadWords, wrongWords}
 use Rattle.decoder.specs.Decode.{refused, deliver, readGrid, decodeOf}
 
 -- "A data word (never a check word, and never a mode word) of all 0s or all 1s is marked too": of four words, two are data words

@@ -5,7 +5,6 @@ use mathlib.Core.Path.{_≡_, sym, ap, _∙_}
 use mathlib.Core.Bool.{true}
 use native.Mathlib.Omega.{arith}
 use Rattle.orientation.specs.Sides.{isSide, side-range}
-use Rattle.recovery.specs.Stages.{lawfulModules}
 use Rattle.decoder.specs.Rooms.{area-most}
 use Rattle.decoder.specs.GridLaws.{side-refused, length-refused, module-refused, grid-taken}
 use Rattle.decoder.proofs.grid.decode_in.Statement.{statement}
@@ -67,7 +66,6 @@ same-length-7 : tie.Need-same-length-7
 same-length-7 c = search needs
 
 returns-2 : tie.Need-returns-2
-unfolding lawfulModules
 returns-2 c =
     let g = c .before .before .before .before .before .before .before .before .before .before .before .before .before .before in
     let r = g .before .before .before .before .before .before .before .before .before in
@@ -82,7 +80,6 @@ refused-requires-2 : tie.Need-refused-requires-2
 refused-requires-2 c κs = search needs
 
 returns-3 : tie.Need-returns-3
-unfolding lawfulModules
 returns-3 c =
     let r = c .before .before in
     let t = r .before .before in

@@ -10,6 +10,7 @@ use borrow.Author.Tests.{lt-leb, le-leb}
 use borrow.Author.Count.{below-more}
 use Rattle.list_laws.specs.Range.{all-of, all-but}
 use Rattle.list_laws.specs.Tests.{true-of, holds}
+use Rattle.orientation.specs.Modules.{lawfulModules}
 use Rattle.orientation.proofs.modules.all_lawful.Statement.{statement}
 use Rattle.orientation.proofs.modules.all_lawful.Tie as tie
 
@@ -26,6 +27,7 @@ shared-slice-read-if1 : tie.Need-shared-slice-read-if1 Inv-loop μ-loop
 shared-slice-read-if1 c = omega arith
 
 returns : tie.Need-returns Inv-loop μ-loop
+unfolding lawfulModules
 returns c =
     let l = c .before .before .before .loop in
     let g = c .before .before .before .before .args .grid .now in
@@ -44,6 +46,7 @@ loop-again c =
     (omega arith, below-more _ (l .k) (l .inv .1) (le-leb (getD g (l .k) 0) 2 (omega arith)))
 
 returns-2 : tie.Need-returns-2 Inv-loop μ-loop
+unfolding lawfulModules
 returns-2 c =
     let l = c .before .loop in
     let g = c .before .before .args .grid .now in
