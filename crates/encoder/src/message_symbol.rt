@@ -2,7 +2,6 @@
 use crate::mode;
 use reed_solomon::check_words;
 use stream_writer::encoding;
-use symbol::drawing;
 use symbol::places;
 use symbol::shapes;
 ghost use mathlib.Core.Path.{_≡_};
