@@ -10,7 +10,7 @@ use lib.ListN.{length, take, drop}
 use borrow.Author.Tests.{le-leb, lt-leb}
 use Rattle.list_laws.specs.Tests.{both-parts, holds}
 use Rattle.finite_field.specs.Field.{sizeOf}
-use Rattle.reed_solomon.specs.Nearest.{nearest}
+use Rattle.block_code.specs.Nearest.{nearest}
 use Rattle.stream.specs.Items as items
 use Rattle.symbol.specs.Shapes.{side, wordSize, words, numberOf}
 use Rattle.symbol.specs.GridWords.{unread}

@@ -10,7 +10,7 @@ use lib.ListN.{length, getD, take, drop}
 use Rattle.list_laws.specs.Filled.{tabulate, length-tabulate, getD-tabulate}
 use Rattle.list_laws.specs.Writes.{writes}
 use Rattle.finite_field.specs.Field.{sizeOf}
-use Rattle.reed_solomon.specs.Nearest.{nearest}
+use Rattle.block_code.specs.Nearest.{nearest}
 use Rattle.stream.specs.Items as items
 use Rattle.stream.specs.Stuffing.{flat}
 use Rattle.symbol.specs.Shapes.{side, wordSize, words, core, numberOf, Shaped}

@@ -8,7 +8,7 @@ use lib.Dec.{eqb, leb}
 use lib.ListN.{length}
 use Rattle.encoder.specs.declared.Encoded.{Encoded}
 use Rattle.finite_field.specs.Field.{sizeOf}
-use Rattle.reed_solomon.specs.CheckWords.{checkWords}
+use Rattle.block_code.specs.CheckWords.{checkWords}
 use Rattle.symbol.specs.Shapes.{wordSize, words, isFull, layers}
 use Rattle.symbol.specs.Drawing.{drawn}
 use Rattle.encoder.specs.Plan.{refused, dataWords, planOf}

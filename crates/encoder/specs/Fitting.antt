@@ -14,10 +14,10 @@ use borrow.Author.Tests.{eqb-false, ltb-true, ltb-false}
 use Rattle.list_laws.specs.Search.{firstFrom, first-found}
 use Rattle.list_laws.specs.Tests.{both-parts, holds}
 use Rattle.finite_field.specs.Field as field
-use Rattle.reed_solomon.specs.Block.{Words, Valid}
-use Rattle.reed_solomon.specs.CheckWords.{checkWords, withCheckWords}
-use Rattle.reed_solomon.specs.CheckWordsLaws.{length-check-words, check-words-valid}
-use Rattle.reed_solomon.specs.WordLists.{words-below}
+use Rattle.block_code.specs.Block.{Words, Valid}
+use Rattle.block_code.specs.CheckWords.{checkWords, withCheckWords}
+use Rattle.block_code.specs.CheckWordsLaws.{length-check-words, check-words-valid}
+use Rattle.block_code.specs.WordLists.{words-below}
 use Rattle.stream.specs.Below.{Bytes}
 use Rattle.stream.specs.Stream.{bitsOf}
 use Rattle.stream.specs.Stuffing.{stuff}

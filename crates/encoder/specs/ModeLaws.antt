@@ -8,10 +8,10 @@ use native.Mathlib.Nat.{mod-lt}
 use native.Mathlib.Omega.{arith}
 use lib.ListN.{length, take, set, length-append}
 use Rattle.finite_field.specs.Field.{sizeOf}
-use Rattle.reed_solomon.specs.Block.{Words, Valid}
-use Rattle.reed_solomon.specs.CheckWords.{checkWords, withCheckWords}
-use Rattle.reed_solomon.specs.CheckWordsLaws.{length-check-words, check-words-valid}
-use Rattle.reed_solomon.specs.WordLists.{words-cons, words-below}
+use Rattle.block_code.specs.Block.{Words, Valid}
+use Rattle.block_code.specs.CheckWords.{checkWords, withCheckWords}
+use Rattle.block_code.specs.CheckWordsLaws.{length-check-words, check-words-valid}
+use Rattle.block_code.specs.WordLists.{words-cons, words-below}
 use Rattle.symbol.specs.Places.{modeRun}
 use Rattle.encoder.specs.ModeMessage.{modeData, modeChecks, modeWords}
 

@@ -4,7 +4,7 @@ use mathlib.Core.Bool.{Bool, true, false}
 use mathlib.Core.List.{List, [], _∷_, _++_}
 use Prim.Native.Nat.{ℕ, _+_, _*_, _-_, _/_, _%_}
 use Rattle.finite_field.specs.Field.{sizeOf}
-use Rattle.reed_solomon.specs.CheckWords.{checkWords}
+use Rattle.block_code.specs.CheckWords.{checkWords}
 
 -- "Compact: L − 1 in 2 bits, D − 1 in 6 … Full: 5 and 11 bits", in words of 4 bits
 unfoldable pub modeData : Bool → ℕ → ℕ → List ℕ

@@ -1,6 +1,5 @@
 // The symbol of a message in its shape: data words, check words, mode words, and all drawn.
 use crate::mode;
-use reed_solomon::check_words;
 use stream_writer::encoding;
 use symbol::places;
 use symbol::shapes;

@@ -1,5 +1,4 @@
 // Mode words: layers and data words, said in the core ring, with check words of their own.
-use reed_solomon::check_words;
 ghost use mathlib.Core.Path.{_≡_};
 ghost use mathlib.Core.Bool.{true, false};
 ghost use Prim.Native.Nat.{_≤_};

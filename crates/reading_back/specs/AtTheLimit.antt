@@ -16,8 +16,8 @@ use Rattle.list_laws.specs.Search.{firstFrom}
 use Rattle.list_laws.specs.Tests.{holds}
 use Rattle.list_laws.specs.Writes.{writes}
 use Rattle.finite_field.specs.Field.{times, timesX, shift}
-use Rattle.reed_solomon.specs.CheckWords.{timesRoot, generator, divideStep, remainder, checkWords}
-use Rattle.reed_solomon.specs.Nearest.{differ, unread}
+use Rattle.block_code.specs.CheckWords.{timesRoot, generator, divideStep, remainder, checkWords}
+use Rattle.block_code.specs.Nearest.{differ, unread}
 use Rattle.stream.specs.Below.{Bytes}
 use Rattle.stream.specs.Bits.{bits}
 use Rattle.stream.specs.Codes.{chars, table, row, entry, width, position, codeOf, has, home, coded}

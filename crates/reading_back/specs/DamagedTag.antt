@@ -17,10 +17,10 @@ use Rattle.list_laws.specs.Filled.{tabulate, length-tabulate, getD-tabulate}
 use Rattle.list_laws.specs.Range.{count, count-same, count-not, all, all-of}
 use Rattle.list_laws.specs.Tests.{true-of}
 use Rattle.finite_field.specs.Field as field
-use Rattle.reed_solomon.specs.Block.{Valid}
-use Rattle.reed_solomon.specs.Nearest.{differ, marked}
-use Rattle.reed_solomon.specs.Nearest as nearest
-use Rattle.reed_solomon.specs.NearestLaws.{nearest-some}
+use Rattle.block_code.specs.Block.{Valid}
+use Rattle.block_code.specs.Nearest.{differ, marked}
+use Rattle.block_code.specs.Nearest as nearest
+use Rattle.block_code.specs.NearestLaws.{nearest-some}
 use Rattle.stream.specs.Below.{Bytes}
 use Rattle.stream.specs.Items as items
 use Rattle.stream.specs.RoundTrip.{judge-message}

@@ -18,9 +18,9 @@ use lib.Pow.{pow-pos}
 use Rattle.list_laws.specs.Range.{all, all-at}
 use Rattle.list_laws.specs.Tests.{both-parts, holds}
 use Rattle.finite_field.specs.Field.{bits, sizeOf}
-use Rattle.reed_solomon.specs.Block.{Valid}
-use Rattle.reed_solomon.specs.Nearest.{marked, unread, differ, Near, nearest}
-use Rattle.reed_solomon.specs.NearestLaws.{nearest-some, some-near, none-near, nearest-none, near-unique}
+use Rattle.block_code.specs.Block.{Valid}
+use Rattle.block_code.specs.Nearest.{marked, unread, differ, Near, nearest}
+use Rattle.block_code.specs.NearestLaws.{nearest-some, some-near, none-near, nearest-none, near-unique}
 use Rattle.reed_solomon.specs.Correct.{Answer, refused, answer, sameLengths, lawfulSize, lawfulCounts, lawfulWords, correctOf}
 
 -- four tests in a row, with the number of each

@@ -11,8 +11,8 @@ use borrow.Author.Tests.{eq-eqb, ltb-true}
 use Rattle.list_laws.specs.Filled.{tabulate, length-tabulate, getD-tabulate}
 use Rattle.list_laws.specs.Range.{count, count-none, count-first, count-same}
 use Rattle.list_laws.specs.Writes.{writes}
-use Rattle.reed_solomon.specs.Nearest.{marked}
-use Rattle.reed_solomon.specs.Nearest as nearest
+use Rattle.block_code.specs.Nearest.{marked}
+use Rattle.block_code.specs.Nearest as nearest
 use Rattle.stream.specs.Below.{Bytes}
 use Rattle.stream.specs.Stream.{bitsOf}
 use Rattle.stream.specs.StreamLength.{message-bits}

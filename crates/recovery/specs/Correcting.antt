@@ -12,7 +12,7 @@ use borrow.Author.Tests.{eq-eqb, lt-ltb}
 use Rattle.list_laws.specs.Range.{all-of}
 use Rattle.list_laws.specs.Tests.{both, true-of}
 use Rattle.finite_field.specs.Field.{bits, sizeOf}
-use Rattle.reed_solomon.specs.Nearest.{nearest, marked}
+use Rattle.block_code.specs.Nearest.{nearest, marked}
 use Rattle.reed_solomon.specs.Correct.{answer, lawfulWords, correctOf}
 
 -- whether a block was found, and the block

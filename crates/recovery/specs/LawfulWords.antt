@@ -12,8 +12,8 @@ use lib.ListN.{length, getD, List·getD-eq-default}
 use lib.Pow.{pow-pos}
 use Rattle.list_laws.specs.Filled.{tabulate, length-tabulate, getD-tabulate}
 use Rattle.finite_field.specs.Field.{sizeOf}
-use Rattle.reed_solomon.specs.Nearest.{nearest}
-use Rattle.reed_solomon.specs.NearestLaws.{some-near}
+use Rattle.block_code.specs.Nearest.{nearest}
+use Rattle.block_code.specs.NearestLaws.{some-near}
 use Rattle.stream.specs.Stuffing.{flat}
 use Rattle.symbol.specs.Shapes.{wordSize, words, Shaped}
 use Rattle.symbol.specs.Places.{modeRun}

@@ -10,7 +10,7 @@ use lib.ListN.{getD}
 use Rattle.list_laws.specs.Filled.{tabulate}
 use Rattle.list_laws.specs.Range.{count}
 use Rattle.finite_field.specs.Field.{sizeOf}
-use Rattle.reed_solomon.specs.Nearest.{nearest}
+use Rattle.block_code.specs.Nearest.{nearest}
 use Rattle.stream.specs.Stuffing.{flat}
 use Rattle.symbol.specs.Shapes.{side, wordSize, words}
 use Rattle.symbol.specs.Places.{modeRun}

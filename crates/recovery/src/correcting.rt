@@ -7,7 +7,7 @@ ghost use mathlib.Core.Path.{_≡_};
 ghost use Prim.Native.Nat.{_*_, _+_, _-_, _≤_, _<_};
 ghost use lib.ListN.{length};
 ghost use Rattle.finite_field.specs.Field.{sizeOf};
-ghost use Rattle.reed_solomon.specs.Nearest.{nearest};
+ghost use Rattle.block_code.specs.Nearest.{nearest};
 ghost use Rattle.symbol.specs.Shapes as shape;
 ghost use Rattle.symbol.specs.Places.{modeRun};
 ghost use Rattle.symbol.specs.Drawing.{area};

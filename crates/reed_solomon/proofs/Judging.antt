@@ -15,7 +15,7 @@ use lib.ListN.{length, getD, List·getD-eq-default}
 use Rattle.list_laws.specs.Tests.{both-parts, either, false-of, holds}
 use Rattle.list_laws.specs.Range.{all-at}
 use Rattle.finite_field.specs.Field.{WordSize, w4, w6, w8, w10, w12, bits, sizeOf, Word}
-use Rattle.reed_solomon.specs.Nearest.{marked, nearest}
+use Rattle.block_code.specs.Nearest.{marked, nearest}
 use Rattle.reed_solomon.specs.Correct.{Answer, refused, sameLengths, lawfulSize, lawfulCounts, lawfulWords, answer, judgeOf, correctOf}
 use Rattle.correction.specs.Steps.{Readable, Lawful}
 

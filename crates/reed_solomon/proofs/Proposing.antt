@@ -20,8 +20,8 @@ use Rattle.list_laws.specs.Range.{one, count-same}
 use Rattle.list_laws.specs.Filled.{filled, getD-filled, getD-unfilled}
 use Rattle.finite_field.specs.Field.{WordSize, bits}
 use Rattle.finite_field.specs.Instance.{wordField, word, entry, word-zero}
-use Rattle.reed_solomon.specs.Nearest.{marked, unread}
-use Rattle.reed_solomon.specs.NearestLaws.{places-distinct, places-nonzero}
+use Rattle.block_code.specs.Nearest.{marked, unread}
+use Rattle.block_code.specs.NearestLaws.{places-distinct, places-nonzero}
 use Rattle.correction.specs.Steps.{
   ZeroFrom,
   SyndromesOf,

@@ -13,10 +13,10 @@ use Rattle.list_laws.specs.Filled.{tabulate, getD-tabulate}
 use Rattle.finite_field.specs.Xor.{_⊕_}
 use Rattle.finite_field.specs.Field.{WordSize, Word}
 use Rattle.finite_field.specs.Instance.{wordField, word, entry, word-xor}
-use Rattle.reed_solomon.specs.Block.{Words}
-use Rattle.reed_solomon.specs.Nearest.{marked}
+use Rattle.block_code.specs.Block.{Words}
+use Rattle.block_code.specs.Nearest.{marked}
 use Rattle.correction.specs.Steps.{Readable, Blank, readWord, corrected, writtenAt}
-use Rattle.reed_solomon.specs.WordLists.{words-tabulate}
+use Rattle.block_code.specs.WordLists.{words-tabulate}
 use Rattle.correction.proofs.Elements.{xor-word}
 
 pub blank-for : {m n : ℕ} {l : List ℕ} → m ≡ n → Blank n l → Blank m l

@@ -8,7 +8,7 @@ use lib.Dec.{eqb, leb, ltb}
 use lib.ListN.{length, getD}
 use Rattle.list_laws.specs.Range.{all}
 use Rattle.finite_field.specs.Field.{WordSize, bits, sizeOf}
-use Rattle.reed_solomon.specs.Nearest.{marked, nearest}
+use Rattle.block_code.specs.Nearest.{marked, nearest}
 
 pub record Answer : Type 0 where
   pub number : ℕ

@@ -1,10 +1,1 @@
-pub mod Block
-pub mod Nearest
 pub mod Correct
-pub mod SearchLaws
-pub mod WordLists
-pub mod Polynomials
-pub mod FieldView
-pub mod NearestLaws
-pub mod CheckWords
-pub mod CheckWordsLaws

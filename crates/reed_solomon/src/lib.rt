@@ -1,9 +1,8 @@
-// Reed–Solomon coding of blocks of words (document 01, "Words and checks"): check words, and the corrector.
+// The corrector of blocks of words (document 01, "Words and checks" and numbers 31 to 34): the nearest valid block, or a refusal.
 ghost use mathlib.Core.Path.{_≡_};
 ghost use Rattle.reed_solomon.specs.Correct.{correctOf};
 use finite_field::tables;
 
-pub mod check_words;
 pub mod corrector;
 
 // The nearest valid block in `corrected` and 0, or a refusal: 31, 32, 33 or 34, with `corrected` untouched.

@@ -9,8 +9,8 @@ use lib.Dec.{leb}
 use lib.ListN.{length, take, drop, replicate}
 use Rattle.list_laws.specs.Range.{count, all}
 use Rattle.finite_field.specs.Field.{sizeOf, timesX, shift, times}
-use Rattle.reed_solomon.specs.Block.{valueFrom}
-use Rattle.reed_solomon.specs.Nearest.{differ, unread, isNear, orElse, firstOf, search, nearest}
+use Rattle.block_code.specs.Block.{valueFrom}
+use Rattle.block_code.specs.Nearest.{differ, unread, isNear, orElse, firstOf, search, nearest}
 use Rattle.reed_solomon.specs.Correct.{correctOf}
 use Rattle.stream.specs.Bits.{bits, value, allOnes}
 use Rattle.stream.specs.Codes.{chars, table, row, entry, width, position, codeOf, has, home, coded}

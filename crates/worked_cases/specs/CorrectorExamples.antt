@@ -8,9 +8,9 @@ use lib.ListN.{replicate}
 use Rattle.list_laws.specs.Filled.{tabulate}
 use Rattle.list_laws.specs.Range.{count, all}
 use Rattle.finite_field.specs.Field.{sizeOf, timesX, shift, times, power}
-use Rattle.reed_solomon.specs.Block.{valueFrom, value}
-use Rattle.reed_solomon.specs.CheckWords.{timesRoot, generator, divideStep, remainder, checkWords}
-use Rattle.reed_solomon.specs.Nearest.{isNear, orElse, firstOf, search, nearest}
+use Rattle.block_code.specs.Block.{valueFrom, value}
+use Rattle.block_code.specs.CheckWords.{timesRoot, generator, divideStep, remainder, checkWords}
+use Rattle.block_code.specs.Nearest.{isNear, orElse, firstOf, search, nearest}
 use Rattle.reed_solomon.specs.Correct.{Answer, correctOf}
 
 -- (x + 2^1) .. (x + 2^K) without the leading 1, for the mode words: K is 5 or 6

@@ -11,10 +11,10 @@ use lib.ListN.{replicate}
 use Rattle.list_laws.specs.Filled.{tabulate}
 use Rattle.list_laws.specs.Range.{count, all}
 use Rattle.finite_field.specs.Field.{sizeOf, timesX, shift, times}
-use Rattle.reed_solomon.specs.Block.{Words, valueFrom}
-use Rattle.reed_solomon.specs.Nearest.{isNear}
-use Rattle.reed_solomon.specs.WordLists.{words-cons}
-use Rattle.reed_solomon.specs.NearestLaws.{near-test, nearest-some, too-many-marks}
+use Rattle.block_code.specs.Block.{Words, valueFrom}
+use Rattle.block_code.specs.Nearest.{isNear}
+use Rattle.block_code.specs.WordLists.{words-cons}
+use Rattle.block_code.specs.NearestLaws.{near-test, nearest-some, too-many-marks}
 use Rattle.stream.specs.Stuffing.{flat}
 use Rattle.stream.specs.Items.{judge}
 use Rattle.symbol.specs.Shapes.{side, square, bits, wordSize, words, skipped}

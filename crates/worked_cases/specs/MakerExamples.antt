@@ -9,7 +9,7 @@ use lib.ListN.{replicate}
 use Rattle.list_laws.specs.Filled.{tabulate}
 use Rattle.list_laws.specs.Search.{firstFrom}
 use Rattle.finite_field.specs.Field.{timesX, shift, times}
-use Rattle.reed_solomon.specs.CheckWords.{timesRoot, generator, divideStep, remainder, checkWords}
+use Rattle.block_code.specs.CheckWords.{timesRoot, generator, divideStep, remainder, checkWords}
 use Rattle.stream.specs.Bits.{bits}
 use Rattle.stream.specs.Codes.{chars, table, row, entry, width, position, codeOf, has, home, coded}
 use Rattle.stream.specs.Latches.{paths, path, latchCode, pathBits, latchBits}

@@ -8,8 +8,8 @@ use native.Mathlib.Omega.{arith}
 use lib.ListN.{length, take}
 use lib.Seq.{sets, length-sets}
 use Rattle.finite_field.specs.Field.{bits, sizeOf}
-use Rattle.reed_solomon.specs.Block.{Words}
-use Rattle.reed_solomon.specs.CheckWords.{withCheckWords}
+use Rattle.block_code.specs.Block.{Words}
+use Rattle.block_code.specs.CheckWords.{withCheckWords}
 use Rattle.stream.specs.Stream.{bitsOf}
 use Rattle.stream.specs.Stuffing.{stuff}
 use Rattle.symbol.specs.Shapes.{wordSize, words, word-size-range}

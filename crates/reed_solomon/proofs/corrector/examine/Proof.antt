@@ -5,7 +5,7 @@ use mathlib.Core.Path.{_≡_, refl, sym, _∙_}
 use native.Mathlib.Omega.{arith}
 use lib.ListN.{length}
 use Rattle.finite_field.specs.Field.{sizeOf}
-use Rattle.reed_solomon.specs.Nearest.{nearest}
+use Rattle.block_code.specs.Nearest.{nearest}
 use Rattle.reed_solomon.specs.Correct.{lawfulWords, answer, judgeOf}
 use Rattle.correction.specs.Steps.{Lawful}
 use Rattle.reed_solomon.proofs.Judging.{Counts, as-answer, judge-32, judge-33, judge-answer, lawful}

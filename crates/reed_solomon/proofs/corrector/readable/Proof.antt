@@ -14,7 +14,7 @@ use lib.Dec.{T, leb, ltb}
 use lib.ListN.{length, getD}
 use Rattle.list_laws.specs.Range.{all-of}
 use Rattle.finite_field.specs.Field.{bits}
-use Rattle.reed_solomon.specs.Nearest.{marked}
+use Rattle.block_code.specs.Nearest.{marked}
 use Rattle.list_laws.specs.Tests.{true-of}
 use Rattle.list_laws.specs.Range.{all-but}
 use Rattle.reed_solomon.proofs.corrector.readable.Statement.{statement}

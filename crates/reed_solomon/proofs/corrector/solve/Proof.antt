@@ -10,8 +10,8 @@ use lib.ListN.{length}
 use Rattle.list_laws.specs.Filled.{tabulate, length-tabulate}
 use Rattle.finite_field.specs.Field.{sizeOf}
 use Rattle.reed_solomon.specs.Correct.{answer}
-use Rattle.reed_solomon.specs.Nearest.{nearest}
-use Rattle.reed_solomon.specs.NearestLaws.{too-many-marks, answer-found, answer-none}
+use Rattle.block_code.specs.Nearest.{nearest}
+use Rattle.block_code.specs.NearestLaws.{too-many-marks, answer-found, answer-none}
 use Rattle.correction.specs.Steps.{SyndromesOf, readWord, writtenAt}
 use Rattle.reed_solomon.proofs.Solving.{blank-for, written-words, written-entry}
 use Rattle.reed_solomon.proofs.corrector.solve.Statement.{statement}
