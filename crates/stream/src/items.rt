@@ -1,4 +1,4 @@
-// What the reader's items are (document 01, "How a grid is read", step 4); stream_reader reads them.
+// What the reader's items are (document 01, "How a grid is read", step 4); item_reader reads them.
 
 // What an item says: a character, a pair, a new set, or so many raw bytes, which follow it.
 pub enum Item {

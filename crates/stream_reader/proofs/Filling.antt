@@ -16,7 +16,7 @@ use Rattle.stream.specs.Stuffing.{flat, unstuff, unstuffFrom}
 use Rattle.stream.specs.StuffingLaws.{unstuff-is-bits}
 use Rattle.stream.specs.Items.{Reading, message, refused, prepend, adds, yields, extra, setAfter, stops, itemAt, readFrom, readItems, judge}
 use Rattle.stream.proofs.items.Found.{the-type}
-use Rattle.stream_reader.specs.Places.{rest, Stands}
+use Rattle.item_reader.specs.Places.{rest, Stands}
 use Rattle.stream_reader.specs.Scan.{Scanned, length-adds, scan-item, scan-fault, scan-stop}
 use Rattle.stream_reader.specs.Written.{Room, written}
 

@@ -16,7 +16,7 @@ use Rattle.stream.specs.Stuffing.{unstuffFrom}
 use Rattle.stream.specs.StuffingLaws.{unstuff-is-bits}
 use Rattle.stream.specs.Items.{adds, yields, extra, setAfter, stops, itemAt, readItems, verdictOf}
 use Rattle.stream.proofs.items.Found.{the-type}
-use Rattle.stream_reader.specs.Places.{rest, Stands}
+use Rattle.item_reader.specs.Places.{rest, Stands}
 use Rattle.stream_reader.specs.Scan.{Counted, counted-more, length-adds, scan-item, scan-fault, scan-stop}
 
 module _ (h : ℕ) (words : List ℕ) (at w j : ℕ) (s : Stands h words at w j) where

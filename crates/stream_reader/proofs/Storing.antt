@@ -9,7 +9,7 @@ use lib.ListN.{length, take, drop, set, length-drop}
 use lib.Seq.{sets, length-sets, drop-drop}
 use Rattle.stream.specs.Bits.{value}
 use Rattle.stream.specs.Items.{bytesOf}
-use Rattle.stream_reader.specs.Places.{Taken}
+use Rattle.item_reader.specs.Places.{Taken}
 use Rattle.stream_reader.specs.Scan.{bytes-more, length-bytesOf}
 
 pub sets-snoc : (b : List ℕ) (n : ℕ) (o : List ℕ) (v : ℕ) → sets b n (o ++ v ∷ []) ≡ set (sets b n o) (n + length o) v

@@ -1,9 +1,9 @@
 -- The reader's loop over items: what each item leaves to read, and what has been read so far.
 -- Assumes nothing.
 use mathlib.Core.Path.{_≡_, refl, sym, ap, ap₂, _∙_, subst}
-use mathlib.Core.Bool.{Bool, true, false, cond, _&&_}
+use mathlib.Core.Bool.{Bool, true, false, cond}
 use mathlib.Core.List.{List, [], _∷_, _++_, append-assoc, append-nil}
-use Prim.Native.Nat.{ℕ, zero, suc, _+_, _*_, _-_, _^_, _≤_, _<_}
+use Prim.Native.Nat.{ℕ, zero, suc, _+_, _*_, _≤_, _<_}
 use native.Mathlib.Nat.{add-zero, add-assoc}
 use native.Mathlib.Omega.{arith}
 use native.Mathlib.Numerals.{add-one}
@@ -11,7 +11,7 @@ use lib.Dec.{eqb, leb}
 use lib.ListN.{length, take, drop, length-append, length-drop}
 use lib.Seq.{drop-drop}
 use lib.Pow.{pow-mono}
-use borrow.Author.Tests.{leb-true, le-ltb, lt-ltb}
+use borrow.Author.Tests.{leb-true}
 use Rattle.stream.specs.declared.codes.Entry.{Entry}
 use Rattle.stream.specs.declared.codes.Entry.the-variants.{Char, Pair, Latch, Shift, Binary, Flag, Missing}
 use Rattle.stream.specs.declared.items.Item.{Item}
@@ -19,8 +19,7 @@ use Rattle.stream.specs.declared.items.Item.the-variants.{Single, Double, Turn,
 use Rattle.stream.specs.declared.items.Found.{Found}
 use Rattle.stream.specs.declared.items.Found.the-variants.{Whole, Fault}
 use Rattle.stream.specs.Below.{Bits, below-drop}
-use Rattle.stream.specs.Bits.{value, allOnes}
-use Rattle.stream.specs.Ones.{and-false, ones-by-value}
+use Rattle.stream.specs.Bits.{value}
 use Rattle.stream.specs.Codes.{entry, width}
 use Rattle.stream.specs.Items.{Reading, message, refused, prepend, stops, readFrom, readItems}
 use Rattle.stream.specs.Items.{field, complete, shifted, bytesAt, countAt, itemBy, itemAt, bytesOf, adds, yields, extra, setAfter}
@@ -177,16 +176,3 @@ pub record Counted (B : ℕ) (l : List ℕ) (at s n : ℕ) : Type 0 where
 pub counted-more : {B at s n at′ s′ : ℕ} {l : List ℕ} (m : ℕ) (o : List ℕ) (k : Counted B l at s n) → length o ≡ m
     → Scanned B l at′ s′ (k .done ++ o) → Counted B l at′ s′ (n + m)
 counted-more m o k e r = record { done = k .done ++ o; size = length-append (k .done) o ∙ ap₂ _+_ (k .size) e; read = r }
-
--- the stop rule, by the number of bits first and then by what they say
-pub stops-not : (B : ℕ) (l : List ℕ) → B ≤ length l → stops B l ≡ false
-unfolding stops
-stops-not B l h = ap (λ t. allOnes l && t) (le-ltb (length l) B h) ∙ and-false (allOnes l)
-
-pub stops-by-value : (B : ℕ) (l : List ℕ) → Bits l → length l < B → stops B l ≡ eqb (value 0 l) (2 ^ length l - 1)
-unfolding stops
-stops-by-value B l x h = ap (λ t. allOnes l && t) (lt-ltb (length l) B h) ∙ and-true (allOnes l) ∙ ones-by-value l x
-  where
-    and-true : (a : Bool) → (a && true) ≡ a
-    and-true true = refl
-    and-true false = refl

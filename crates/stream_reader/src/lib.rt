@@ -1,5 +1,2 @@
-// From words to bytes (document 01, "How a grid is read", step 4): the stuffed bits dropped, the items read.
-pub mod items;
+// From words to bytes (document 01, "How a grid is read", step 4): item after item, each read by the crate item_reader.
 pub mod message;
-pub mod reading;
-pub mod view;

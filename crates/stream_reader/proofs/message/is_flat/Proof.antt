@@ -9,7 +9,7 @@ use native.Mathlib.Omega.{arith}
 use lib.Dec.{eqb}
 use lib.Pow.{pow-pos}
 use Rattle.stream.specs.Stuffing.{flat}
-use Rattle.stream_reader.proofs.WordParts.{one-shl}
+use Rattle.item_reader.proofs.WordParts.{one-shl}
 use Rattle.stream_reader.proofs.message.is_flat.Statement.{statement}
 use Rattle.stream_reader.proofs.message.is_flat.Tie as tie
 

@@ -12,7 +12,7 @@ use Rattle.stream.specs.declared.items.Item.{Item}
 use Rattle.stream.specs.Items.{yields, extra, setAfter, stops}
 use Rattle.stream.specs.Stuffing.{unstuff, unstuffFrom}
 use Rattle.stream.specs.StuffingLaws.{unstuff-is-bits}
-use Rattle.stream_reader.specs.Places.{rest, Stands, stands-start}
+use Rattle.item_reader.specs.Places.{rest, Stands, stands-start}
 use Rattle.stream_reader.specs.Scan.{Counted, scan-start}
 use Rattle.stream_reader.proofs.Passes.{bits-left, stands-further, counted-item, counted-fault, counted-stop}
 use Rattle.stream_reader.proofs.message.read_items.Statement.{statement}

@@ -7,7 +7,7 @@ use native.Mathlib.Omega.{arith}
 use lib.ListN.{set, length-set}
 use lib.Seq.{sets}
 use Rattle.stream.specs.Items.{adds, yields, extra}
-use Rattle.stream_reader.specs.Places.{rest}
+use Rattle.item_reader.specs.Places.{rest}
 use Rattle.stream_reader.proofs.message.write_item.Statement.{statement}
 use Rattle.stream_reader.proofs.message.write_item.Tie as tie
 

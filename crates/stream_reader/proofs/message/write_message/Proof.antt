@@ -14,7 +14,7 @@ use Rattle.stream.specs.declared.items.Found.the-variants.{Whole}
 use Rattle.stream.specs.Items.{adds, yields, extra, stops, itemAt, readItems}
 use Rattle.stream.specs.Stuffing.{unstuffFrom}
 use Rattle.stream.specs.StuffingLaws.{unstuff-is-bits}
-use Rattle.stream_reader.specs.Places.{rest, Stands, stands-start}
+use Rattle.item_reader.specs.Places.{rest, Stands, stands-start}
 use Rattle.stream_reader.specs.Scan.{scan-start}
 use Rattle.stream_reader.specs.Written.{Room}
 use Rattle.stream_reader.proofs.Passes.{bits-left, stands-further}

@@ -5,8 +5,8 @@ use Prim.Native.Nat.{_-_, _≤_}
 use native.Mathlib.Omega.{arith}
 use lib.Seq.{sets}
 use Rattle.stream.specs.Items.{bytesOf}
-use Rattle.stream_reader.specs.Places.{rest}
-use Rattle.stream_reader.proofs.WordParts.{rest-is-bits, taken-below}
+use Rattle.item_reader.specs.Places.{rest}
+use Rattle.item_reader.proofs.WordParts.{rest-is-bits, taken-below}
 use Rattle.stream_reader.proofs.Storing.{Stored, stored-length, stored-left, stored-more}
 use Rattle.stream_reader.proofs.message.write_raw.Statement.{statement}
 use Rattle.stream_reader.proofs.message.write_raw.Tie as tie
