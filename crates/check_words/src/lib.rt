@@ -26,7 +26,8 @@ use finite_field::tables::powers_12;
 fn add_root(size: u32, powers: &[u16], logs: &[u16], k: usize, m: usize, g: &mut [u16])
     requires { ⌜ Tables (sizeOf size) (now powers) (now logs) ⌝ ∗ ⌜ Words (sizeOf size) (take m (now g)) ⌝ }
     requires { ⌜ k < 2 ^ bits (sizeOf size) ⌝ ∗ ⌜ m < length (now g) ⌝ }
-    ensures { λ _. ⌜ now (g .exit) ≡ timesRoot (sizeOf size) (power (sizeOf size) k) (take m (now (g .entry))) ++ drop (m + 1) (now (g .entry)) ⌝ }
+    ensures { λ _. ⌜ now (g .exit) ≡ timesRoot (sizeOf size) (power (sizeOf size) k)
+        (take m (now (g .entry))) ++ drop (m + 1) (now (g .entry)) ⌝ }
 {
     let mut above: u16 = 1;
     let mut i = 0;
@@ -80,7 +81,9 @@ fn move_up(tail: &mut [u16])
 fn add_multiple(size: u32, powers: &[u16], logs: &[u16], g: &[u16], k: usize, tail: &mut [u16])
     requires { ⌜ Tables (sizeOf size) (now powers) (now logs) ⌝ ∗ ⌜ Words (sizeOf size) (now g) ⌝ }
     requires { ⌜ k < 2 ^ bits (sizeOf size) ⌝ ∗ ⌜ length (now tail) ≤ length (now g) ⌝ }
-    ensures { λ _. ⌜ now (tail .exit) ≡ tabulate (λ (i : ℕ). getD (now (tail .entry)) i 0 ⊕ product (sizeOf size) (getD (now (g .entry)) i 0) (power (sizeOf size) k)) (length (now (tail .entry))) ⌝ }
+    ensures { λ _. ⌜ now (tail .exit) ≡ tabulate
+        (λ (i : ℕ). getD (now (tail .entry)) i 0 ⊕ product (sizeOf size) (getD (now (g .entry)) i 0) (power (sizeOf size) k))
+        (length (now (tail .entry))) ⌝ }
 {
     let mut i = 0;
     while i < tail.len() {
@@ -110,7 +113,8 @@ fn divide_step(size: u32, powers: &[u16], logs: &[u16], g: &[u16], word: u16, ta
 fn divide(size: u32, powers: &[u16], logs: &[u16], g: &[u16], data_words: usize, block: &mut [u16])
     requires { ⌜ Tables (sizeOf size) (now powers) (now logs) ⌝ ∗ ⌜ Words (sizeOf size) (now g) ⌝ ∗ ⌜ Words (sizeOf size) (now block) ⌝ }
     requires { ⌜ data_words < length (now block) ⌝ ∗ ⌜ length (now g) ≡ length (now block) - data_words ⌝ }
-    ensures { λ _. ⌜ now (block .exit) ≡ take data_words (now (block .entry)) ++ remainder (sizeOf size) (now (g .entry)) (drop data_words (now (block .entry))) (take data_words (now (block .entry))) ⌝ }
+    ensures { λ _. ⌜ now (block .exit) ≡ take data_words (now (block .entry)) ++ remainder (sizeOf size) (now (g .entry))
+        (drop data_words (now (block .entry))) (take data_words (now (block .entry))) ⌝ }
 {
     let mut i = 0;
     while i < data_words {
@@ -146,7 +150,8 @@ fn fill_by(
     data_words: usize,
     block: &mut [u16],
 )
-    requires { ⌜ Tables (sizeOf size) (now powers) (now logs) ⌝ ∗ ⌜ length (now block) ≤ length (now g) ⌝ ∗ ⌜ length (now block) < 2 ^ bits (sizeOf size) ⌝ }
+    requires { ⌜ Tables (sizeOf size) (now powers) (now logs) ⌝ ∗ ⌜ length (now block) ≤ length (now g) ⌝
+        ∗ ⌜ length (now block) < 2 ^ bits (sizeOf size) ⌝ }
     requires { ⌜ data_words < length (now block) ⌝ ∗ ⌜ Words (sizeOf size) (take data_words (now block)) ⌝ }
     ensures { λ _. ⌜ now (block .exit) ≡ withCheckWords (sizeOf size) data_words (now (block .entry)) ⌝ }
 {
@@ -157,7 +162,8 @@ fn fill_by(
 
 // A local array is cleared at each call, so a short block has a short one for its generator.
 fn fill_short(size: u32, powers: &[u16], logs: &[u16], data_words: usize, block: &mut [u16])
-    requires { ⌜ Tables (sizeOf size) (now powers) (now logs) ⌝ ∗ ⌜ length (now block) ≤ 256 ⌝ ∗ ⌜ length (now block) < 2 ^ bits (sizeOf size) ⌝ }
+    requires { ⌜ Tables (sizeOf size) (now powers) (now logs) ⌝ ∗ ⌜ length (now block) ≤ 256 ⌝
+        ∗ ⌜ length (now block) < 2 ^ bits (sizeOf size) ⌝ }
     requires { ⌜ data_words < length (now block) ⌝ ∗ ⌜ Words (sizeOf size) (take data_words (now block)) ⌝ }
     ensures { λ _. ⌜ now (block .exit) ≡ withCheckWords (sizeOf size) data_words (now (block .entry)) ⌝ }
 {

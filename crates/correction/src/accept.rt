@@ -45,7 +45,8 @@ fn settle_all(
     count: usize,
     s: &mut [u16],
 )
-    requires { ⌜ Tables (sizeOf size) (now powers) (now logs) ⌝ ∗ ⌜ Words (sizeOf size) (now corrections) ⌝ ∗ ⌜ Words (sizeOf size) (now s) ⌝ }
+    requires { ⌜ Tables (sizeOf size) (now powers) (now logs) ⌝
+        ∗ ⌜ Words (sizeOf size) (now corrections) ⌝ ∗ ⌜ Words (sizeOf size) (now s) ⌝ }
     requires { ⌜ n ≤ length (now corrections) ⌝ ∗ ⌜ n ≤ 2 ^ bits (sizeOf size) ⌝ ∗ ⌜ count ≤ length (now s) ⌝ }
     ensures { λ _. ⌜ steps.SettledAll (sizeOf size) n count (now (corrections .entry)) (now (s .entry)) (now (s .exit)) ⌝ }
 {
@@ -75,7 +76,8 @@ fn all_zero(words: &[u16], count: usize) -> bool
 // r: how many words that were read are corrected.
 fn count_wrong(corrections: &[u16], marks: &[u8]) -> usize
     requires { ⌜ length (now marks) ≤ length (now corrections) ⌝ }
-    ensures { λ r. ⌜ r ≡ range.count (length (now (marks .entry))) (λ (i : ℕ). not (marked (now (marks .entry)) i) && not (eqb (getD (now (corrections .entry)) i 0) 0)) ⌝ }
+    ensures { λ r. ⌜ r ≡ range.count (length (now (marks .entry)))
+        (λ (i : ℕ). not (marked (now (marks .entry)) i) && not (eqb (getD (now (corrections .entry)) i 0) 0)) ⌝ }
 {
     let mut r = 0;
     let mut i = 0;
@@ -116,10 +118,18 @@ pub fn is_near(
     limit: usize,
     s: &mut [u16],
 ) -> bool
-    requires { ⌜ Tables (sizeOf size) (now powers) (now logs) ⌝ ∗ ⌜ Words (sizeOf size) (now corrections) ⌝ ∗ ⌜ Words (sizeOf size) (now s) ⌝ }
-    requires { ⌜ length (now marks) ≤ length (now corrections) ⌝ ∗ ⌜ length (now marks) ≤ 2 ^ bits (sizeOf size) ⌝ ∗ ⌜ count ≤ length (now s) ⌝ }
-    ensures accepts { λ r. ⌜ ((y : ℕ → wordField (sizeOf size) .C) → steps.SyndromesOf (sizeOf size) count (length (now (marks .entry))) y (now (s .entry)) → r ≡ true → steps.NearTo (sizeOf size) count limit (now (marks .entry)) y (steps.corrected (sizeOf size) y (now (corrections .entry)))) ⌝ }
-    ensures refuses { λ r. ⌜ ((y : ℕ → wordField (sizeOf size) .C) → steps.SyndromesOf (sizeOf size) count (length (now (marks .entry))) y (now (s .entry)) → r ≡ false → steps.NearTo (sizeOf size) count limit (now (marks .entry)) y (steps.corrected (sizeOf size) y (now (corrections .entry))) → ⊥) ⌝ }
+    requires { ⌜ Tables (sizeOf size) (now powers) (now logs) ⌝
+        ∗ ⌜ Words (sizeOf size) (now corrections) ⌝ ∗ ⌜ Words (sizeOf size) (now s) ⌝ }
+    requires { ⌜ length (now marks) ≤ length (now corrections) ⌝
+        ∗ ⌜ length (now marks) ≤ 2 ^ bits (sizeOf size) ⌝ ∗ ⌜ count ≤ length (now s) ⌝ }
+    ensures accepts { λ r.
+        ⌜ ((y : ℕ → wordField (sizeOf size) .C) → steps.SyndromesOf (sizeOf size) count (length (now (marks .entry))) y (now (s .entry))
+        → r ≡ true → steps.NearTo (sizeOf size) count limit (now (marks .entry)) y
+        (steps.corrected (sizeOf size) y (now (corrections .entry)))) ⌝ }
+    ensures refuses { λ r.
+        ⌜ ((y : ℕ → wordField (sizeOf size) .C) → steps.SyndromesOf (sizeOf size) count (length (now (marks .entry))) y (now (s .entry))
+        → r ≡ false → steps.NearTo (sizeOf size) count limit (now (marks .entry)) y
+        (steps.corrected (sizeOf size) y (now (corrections .entry))) → ⊥) ⌝ }
 {
     settle_all(size, powers, logs, corrections, marks.len(), count, s);
     if all_zero(s, count) {

@@ -21,7 +21,8 @@ fn dot(
 ) -> u16
     requires { ⌜ Tables (sizeOf size) (now powers) (now logs) ⌝ ∗ ⌜ Words (sizeOf size) (now p) ⌝ ∗ ⌜ Words (sizeOf size) (now u) ⌝ }
     requires { ⌜ count ≤ length (now p) ⌝ ∗ ⌜ at + count ≤ length (now u) ⌝ }
-    ensures { λ r. ⌜ r ≡ number (sizeOf size) (key.dot (wordField (sizeOf size)) count (entry (sizeOf size) (now (p .entry))) (entry (sizeOf size) (now (u .entry))) at) ⌝ }
+    ensures { λ r. ⌜ r ≡ number (sizeOf size)
+        (key.dot (wordField (sizeOf size)) count (entry (sizeOf size) (now (p .entry))) (entry (sizeOf size) (now (u .entry))) at) ⌝ }
 {
     let mut sum: u16 = 0;
     let mut j = 0;

@@ -15,7 +15,8 @@ ghost use Rattle.correction.specs.Steps.{ZeroFrom, Readable, Syndromes, 
 fn absorb(size: u32, powers: &[u16], logs: &[u16], word: u16, count: usize, s: &mut [u16])
     requires { ⌜ Tables (sizeOf size) (now powers) (now logs) ⌝ ∗ ⌜ Word (sizeOf size) word ⌝ }
     requires { ⌜ Words (sizeOf size) (now s) ⌝ ∗ ⌜ count < 2 ^ bits (sizeOf size) ⌝ ∗ ⌜ count ≤ length (now s) ⌝ }
-    ensures { λ _. ⌜ now (s .exit) ≡ filled (λ (j : ℕ). product (sizeOf size) (getD (now (s .entry)) j 0) (power (sizeOf size) (j + 1)) ⊕ word) count (now (s .entry)) ⌝ }
+    ensures { λ _. ⌜ now (s .exit) ≡ filled
+        (λ (j : ℕ). product (sizeOf size) (getD (now (s .entry)) j 0) (power (sizeOf size) (j + 1)) ⊕ word) count (now (s .entry)) ⌝ }
 {
     let mut j = 0;
     while j < count {
@@ -67,7 +68,9 @@ pub fn syndromes(
 fn take_out(size: u32, powers: &[u16], logs: &[u16], k: usize, count: usize, u: &mut [u16])
     requires { ⌜ Tables (sizeOf size) (now powers) (now logs) ⌝ ∗ ⌜ Words (sizeOf size) (now u) ⌝ }
     requires { ⌜ k < 2 ^ bits (sizeOf size) ⌝ ∗ ⌜ count < length (now u) ⌝ }
-    ensures { λ _. ⌜ now (u .exit) ≡ filled (λ (j : ℕ). product (sizeOf size) (getD (now (u .entry)) j 0) (power (sizeOf size) k) ⊕ getD (now (u .entry)) (j + 1) 0) count (now (u .entry)) ⌝ }
+    ensures { λ _. ⌜ now (u .exit) ≡ filled
+        (λ (j : ℕ). product (sizeOf size) (getD (now (u .entry)) j 0) (power (sizeOf size) k) ⊕ getD (now (u .entry)) (j + 1) 0) count
+        (now (u .entry)) ⌝ }
 {
     let mut j = 0;
     while j < count {

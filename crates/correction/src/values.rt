@@ -17,7 +17,9 @@ ghost use Rattle.correction.specs.Steps as steps;
 fn eval(size: u32, powers: &[u16], logs: &[u16], p: &[u16], count: usize, k: usize) -> u16
     requires { ⌜ Tables (sizeOf size) (now powers) (now logs) ⌝ ∗ ⌜ Words (sizeOf size) (now p) ⌝ }
     requires { ⌜ count ≤ length (now p) ⌝ ∗ ⌜ k < 2 ^ bits (sizeOf size) ⌝ }
-    ensures { λ r. ⌜ r ≡ number (sizeOf size) (key.eval (wordField (sizeOf size)) count (entry (sizeOf size) (now (p .entry))) (pow (wordField (sizeOf size)) (x (sizeOf size)) k)) ⌝ }
+    ensures { λ r. ⌜ r ≡ number (sizeOf size)
+        (key.eval (wordField (sizeOf size)) count (entry (sizeOf size) (now (p .entry)))
+        (pow (wordField (sizeOf size)) (x (sizeOf size)) k)) ⌝ }
 {
     let mut value: u16 = 0;
     let mut j = count;
@@ -75,7 +77,8 @@ pub fn gather(
     g: &mut [u16],
 ) -> usize
     requires { ⌜ Tables (sizeOf size) (now powers) (now logs) ⌝ ∗ ⌜ Words (sizeOf size) (now p) ⌝ }
-    requires { ⌜ degree < length (now p) ⌝ ∗ ⌜ length (now marks) ≤ 2 ^ bits (sizeOf size) ⌝ ∗ ⌜ length (now marks) ≤ length (now places) ⌝ }
+    requires { ⌜ degree < length (now p) ⌝ ∗ ⌜ length (now marks) ≤ 2 ^ bits (sizeOf size) ⌝
+        ∗ ⌜ length (now marks) ≤ length (now places) ⌝ }
     requires { ⌜ length (now marks) < length (now g) ⌝ ∗ ⌜ steps.ZeroFrom 0 (now places) ⌝ ∗ ⌜ steps.ZeroFrom 0 (now g) ⌝ }
     ensures { λ r. ⌜ steps.Gathered (sizeOf size) degree (now (p .entry)) (now (marks .entry)) r (now (places .exit)) (now (g .exit)) ⌝ }
 {
@@ -104,9 +107,12 @@ fn correction(
     syndromes: &[u16],
     k: usize,
 ) -> u16
-    requires { ⌜ Tables (sizeOf size) (now powers) (now logs) ⌝ ∗ ⌜ Words (sizeOf size) (now g) ⌝ ∗ ⌜ Words (sizeOf size) (now syndromes) ⌝ }
+    requires { ⌜ Tables (sizeOf size) (now powers) (now logs) ⌝ ∗ ⌜ Words (sizeOf size) (now g) ⌝
+        ∗ ⌜ Words (sizeOf size) (now syndromes) ⌝ }
     requires { ⌜ m < length (now g) ⌝ ∗ ⌜ m ≤ length (now syndromes) ⌝ ∗ ⌜ k < 2 ^ bits (sizeOf size) ⌝ }
-    ensures { λ r. ⌜ r ≡ number (sizeOf size) (exactness.correction (wordField (sizeOf size)) m (entry (sizeOf size) (now (g .entry))) (entry (sizeOf size) (now (syndromes .entry))) (pow (wordField (sizeOf size)) (x (sizeOf size)) k)) ⌝ }
+    ensures { λ r. ⌜ r ≡ number (sizeOf size)
+        (exactness.correction (wordField (sizeOf size)) m (entry (sizeOf size) (now (g .entry)))
+        (entry (sizeOf size) (now (syndromes .entry))) (pow (wordField (sizeOf size)) (x (sizeOf size)) k)) ⌝ }
 {
     let mut quotient: u16 = 0;
     let mut numerator: u16 = 0;
@@ -139,10 +145,12 @@ pub fn corrections(
     n: usize,
     places: &mut [u16],
 )
-    requires { ⌜ Tables (sizeOf size) (now powers) (now logs) ⌝ ∗ ⌜ Words (sizeOf size) (now g) ⌝ ∗ ⌜ Words (sizeOf size) (now syndromes) ⌝ }
+    requires { ⌜ Tables (sizeOf size) (now powers) (now logs) ⌝ ∗ ⌜ Words (sizeOf size) (now g) ⌝
+        ∗ ⌜ Words (sizeOf size) (now syndromes) ⌝ }
     requires { ⌜ m < length (now g) ⌝ ∗ ⌜ m ≤ length (now syndromes) ⌝ ∗ ⌜ n ≤ length (now places) ⌝ ∗ ⌜ n ≤ 2 ^ bits (sizeOf size) ⌝ }
     requires { ⌜ steps.ZeroFrom n (now places) ⌝ ∗ ⌜ ((i : ℕ) → i < n → getD (now places) i 0 ≤ 1) ⌝ }
-    ensures { λ _. ⌜ steps.Corrections (sizeOf size) n m (now (g .entry)) (now (syndromes .entry)) (now (places .entry)) (now (places .exit)) ⌝ }
+    ensures { λ _. ⌜ steps.Corrections (sizeOf size) n m (now (g .entry)) (now (syndromes .entry))
+        (now (places .entry)) (now (places .exit)) ⌝ }
 {
     let mut i = 0;
     while i < n {

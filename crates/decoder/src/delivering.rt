@@ -53,8 +53,11 @@ fn finish(
     requires { ⌜ shape.Shaped full layers ⌝ ∗ ⌜ (position < 8) × («data_words» ≤ length (now found)) × (length (now found) ≤ 1664) ⌝ }
     requires { ⌜ (length (now received) ≡ length (now found)) × (length (now unread) ≡ length (now found)) ⌝ }
     requires { ⌜ Says (items.judge (shape.wordSize layers) (take «data_words» (now found))) bytes ⌝ }
-    ensures { λ r. ⌜ r ≡ deliverOf (now (message .entry)) full layers position (now (received .entry)) (now (unread .entry)) (now (found .entry)) (items.judge (shape.wordSize layers) (take «data_words» (now (found .entry)))) .answer ⌝ }
-    ensures { λ r. ⌜ now (message .exit) ≡ deliverOf (now (message .entry)) full layers position (now (received .entry)) (now (unread .entry)) (now (found .entry)) (items.judge (shape.wordSize layers) (take «data_words» (now (found .entry)))) .message ⌝ }
+    ensures { λ r. ⌜ r ≡ deliverOf (now (message .entry)) full layers position (now (received .entry)) (now (unread .entry))
+        (now (found .entry)) (items.judge (shape.wordSize layers) (take «data_words» (now (found .entry)))) .answer ⌝ }
+    ensures { λ r. ⌜ now (message .exit) ≡ deliverOf (now (message .entry)) full layers position (now (received .entry))
+        (now (unread .entry)) (now (found .entry))
+        (items.judge (shape.wordSize layers) (take «data_words» (now (found .entry)))) .message ⌝ }
 {
     if message.len() < bytes {
         return refused(21);
@@ -87,8 +90,11 @@ pub fn deliver(
 ) -> Decoded
     requires { ⌜ shape.Shaped full layers ⌝ ∗ ⌜ (position < 8) × («data_words» ≤ length (now found)) × (length (now found) ≤ 1664) ⌝ }
     requires { ⌜ (length (now received) ≡ length (now found)) × (length (now unread) ≡ length (now found)) ⌝ }
-    ensures { λ r. ⌜ r ≡ deliverOf (now (message .entry)) full layers position (now (received .entry)) (now (unread .entry)) (now (found .entry)) (items.judge (shape.wordSize layers) (take «data_words» (now (found .entry)))) .answer ⌝ }
-    ensures { λ r. ⌜ now (message .exit) ≡ deliverOf (now (message .entry)) full layers position (now (received .entry)) (now (unread .entry)) (now (found .entry)) (items.judge (shape.wordSize layers) (take «data_words» (now (found .entry)))) .message ⌝ }
+    ensures { λ r. ⌜ r ≡ deliverOf (now (message .entry)) full layers position (now (received .entry)) (now (unread .entry))
+        (now (found .entry)) (items.judge (shape.wordSize layers) (take «data_words» (now (found .entry)))) .answer ⌝ }
+    ensures { λ r. ⌜ now (message .exit) ≡ deliverOf (now (message .entry)) full layers position (now (received .entry))
+        (now (unread .entry)) (now (found .entry))
+        (items.judge (shape.wordSize layers) (take «data_words» (now (found .entry)))) .message ⌝ }
 {
     let size = shapes::word_size_of(layers);
     match stream_message::judge(&found[..data_words], size) {

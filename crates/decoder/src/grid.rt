@@ -32,8 +32,10 @@ fn read_at(
 ) -> Decoded
     requires { ⌜ (2 * core full < n) × (n ≤ 151) × (n * n ≡ length (now grid)) × (turns < 8) ⌝ }
     requires { ⌜ Rooms (now upright) (now «mode_words») (now received) (now unread) (now marks) (now found) ⌝ }
-    ensures { λ r. ⌜ r ≡ spec.readMode (now (grid .entry)) (now (message .entry)) full n turns (modeIn full n turns (now (grid .entry))) .answer ⌝ }
-    ensures { λ r. ⌜ now (message .exit) ≡ spec.readMode (now (grid .entry)) (now (message .entry)) full n turns (modeIn full n turns (now (grid .entry))) .message ⌝ }
+    ensures { λ r. ⌜ r ≡ spec.readMode (now (grid .entry)) (now (message .entry)) full n turns
+        (modeIn full n turns (now (grid .entry))) .answer ⌝ }
+    ensures { λ r. ⌜ now (message .exit) ≡ spec.readMode (now (grid .entry)) (now (message .entry)) full n turns
+        (modeIn full n turns (now (grid .entry))) .message ⌝ }
 {
     turning::turn_upright(n, turns, grid, upright);
     let run = places::mode_run_of(full);

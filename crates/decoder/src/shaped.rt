@@ -25,11 +25,15 @@ fn read_found(
     upright: &[u8],
     message: &mut [u8],
 ) -> Decoded
-    requires { ⌜ shape.Shaped full layers ⌝ ∗ ⌜ (area full layers ≤ length (now upright)) × (1 ≤ «data_words») × («data_words» + 3 ≤ shape.words full layers) × (position < 8) ⌝ }
+    requires { ⌜ shape.Shaped full layers ⌝
+        ∗ ⌜ (area full layers ≤ length (now upright)) × (1 ≤ «data_words»)
+        × («data_words» + 3 ≤ shape.words full layers) × (position < 8) ⌝ }
     requires { ⌜ (length (now received) ≡ shape.words full layers) × (length (now unread) ≡ shape.words full layers) ⌝ }
     requires { ⌜ (length (now marks) ≡ shape.words full layers) × (length (now found) ≡ shape.words full layers) ⌝ }
-    ensures { λ r. ⌜ r ≡ readFound (now (message .entry)) (now (upright .entry)) full layers «data_words» position (blockOf (now (message .entry)) (now (upright .entry)) full layers «data_words») .answer ⌝ }
-    ensures { λ r. ⌜ now (message .exit) ≡ readFound (now (message .entry)) (now (upright .entry)) full layers «data_words» position (blockOf (now (message .entry)) (now (upright .entry)) full layers «data_words») .message ⌝ }
+    ensures { λ r. ⌜ r ≡ readFound (now (message .entry)) (now (upright .entry)) full layers «data_words» position
+        (blockOf (now (message .entry)) (now (upright .entry)) full layers «data_words») .answer ⌝ }
+    ensures { λ r. ⌜ now (message .exit) ≡ readFound (now (message .entry)) (now (upright .entry)) full layers «data_words» position
+        (blockOf (now (message .entry)) (now (upright .entry)) full layers «data_words») .message ⌝ }
 {
     if correcting::correct_block(
         received,
@@ -69,10 +73,13 @@ fn read_shape(
     upright: &[u8],
     message: &mut [u8],
 ) -> Decoded
-    requires { ⌜ shape.Shaped full layers ⌝ ∗ ⌜ (n * n ≤ length (now upright)) × (1 ≤ «data_words») × («data_words» ≤ 2048) × (position < 8) ⌝ }
-    requires { ⌜ (1664 ≤ length (now received)) × (1664 ≤ length (now unread)) × (1664 ≤ length (now marks)) × (1664 ≤ length (now found)) ⌝ }
+    requires { ⌜ shape.Shaped full layers ⌝
+        ∗ ⌜ (n * n ≤ length (now upright)) × (1 ≤ «data_words») × («data_words» ≤ 2048) × (position < 8) ⌝ }
+    requires { ⌜ (1664 ≤ length (now received)) × (1664 ≤ length (now unread))
+        × (1664 ≤ length (now marks)) × (1664 ≤ length (now found)) ⌝ }
     ensures { λ r. ⌜ r ≡ readShapeOf (now (message .entry)) (now (upright .entry)) full n position layers «data_words» .answer ⌝ }
-    ensures { λ r. ⌜ now (message .exit) ≡ readShapeOf (now (message .entry)) (now (upright .entry)) full n position layers «data_words» .message ⌝ }
+    ensures { λ r. ⌜ now (message .exit) ≡ readShapeOf (now (message .entry)) (now (upright .entry)) full n
+        position layers «data_words» .message ⌝ }
 {
     if said::is_lawful(full, n, layers, data_words) {
         let count = shapes::words_of(full, layers);
@@ -105,10 +112,14 @@ pub fn read_said(
     upright: &[u8],
     message: &mut [u8],
 ) -> Decoded
-    requires { ⌜ (2 * shape.core full < n) × (n ≤ 151) × (n * n ≤ length (now upright)) × (position < 8) × (length (now «mode_words») ≡ modeRun full) ⌝ }
-    requires { ⌜ (1664 ≤ length (now received)) × (1664 ≤ length (now unread)) × (1664 ≤ length (now marks)) × (1664 ≤ length (now found)) ⌝ }
-    ensures { λ r. ⌜ r ≡ readSaid (now (message .entry)) (now (upright .entry)) full n position (modeOf (now (message .entry)) (now (upright .entry)) full n) .answer ⌝ }
-    ensures { λ r. ⌜ now (message .exit) ≡ readSaid (now (message .entry)) (now (upright .entry)) full n position (modeOf (now (message .entry)) (now (upright .entry)) full n) .message ⌝ }
+    requires { ⌜ (2 * shape.core full < n) × (n ≤ 151) × (n * n ≤ length (now upright)) × (position < 8)
+        × (length (now «mode_words») ≡ modeRun full) ⌝ }
+    requires { ⌜ (1664 ≤ length (now received)) × (1664 ≤ length (now unread))
+        × (1664 ≤ length (now marks)) × (1664 ≤ length (now found)) ⌝ }
+    ensures { λ r. ⌜ r ≡ readSaid (now (message .entry)) (now (upright .entry)) full n position
+        (modeOf (now (message .entry)) (now (upright .entry)) full n) .answer ⌝ }
+    ensures { λ r. ⌜ now (message .exit) ≡ readSaid (now (message .entry)) (now (upright .entry)) full n position
+        (modeOf (now (message .entry)) (now (upright .entry)) full n) .message ⌝ }
 {
     if correcting::correct_mode(full, n, upright, mode_words) {
         let layers = said::said_layers(full, mode_words);

@@ -51,7 +51,8 @@ fn fixed_at(full: bool, x: usize, y: usize) -> u8
 // One row of the pattern.
 fn draw_row(full: bool, layers: usize, row: usize, grid: &mut [u8])
     requires { ⌜ Shaped full layers ⌝ ∗ ⌜ (row < side full layers) × (area full layers ≤ length (now grid)) ⌝ }
-    ensures { λ _. ⌜ now (grid .exit) ≡ writes (now (grid .entry)) (λ (c : ℕ). row * side full layers + c) (λ (c : ℕ). fixedPlace full layers (row * side full layers + c)) (side full layers) ⌝ }
+    ensures { λ _. ⌜ now (grid .exit) ≡ writes (now (grid .entry)) (λ (c : ℕ). row * side full layers + c)
+        (λ (c : ℕ). fixedPlace full layers (row * side full layers + c)) (side full layers) ⌝ }
 {
     let n = shapes::side_of(full, layers);
     let y = gap_of(row, n / 2);

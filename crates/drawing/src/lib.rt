@@ -28,7 +28,8 @@ fn draw_zeros(count: usize, places: &[u16], grid: &mut [u8])
 // The bits of a word at its places, which start at `from`.
 fn draw_word(word: u16, size: usize, places: &[u16], from: usize, grid: &mut [u8])
     requires { ⌜ (size ≤ 12) × (from + size ≤ length (now places)) ⌝ ∗ ⌜ PlacesFit (now places) from size (length (now grid)) ⌝ }
-    ensures { λ _. ⌜ now (grid .exit) ≡ writes (now (grid .entry)) (λ (b : ℕ). getD (now (places .entry)) (from + b) 0) (bitOf size word) size ⌝ }
+    ensures { λ _. ⌜ now (grid .exit) ≡ writes (now (grid .entry))
+        (λ (b : ℕ). getD (now (places .entry)) (from + b) 0) (bitOf size word) size ⌝ }
 {
     let mut b = 0;
     while b < size {
@@ -42,7 +43,8 @@ fn draw_word(word: u16, size: usize, places: &[u16], from: usize, grid: &mut [u8
 pub fn draw_words(words: &[u16], size: usize, skip: usize, places: &[u16], grid: &mut [u8])
     requires { ⌜ (1 ≤ size) × (size ≤ 12) × (skip + length (now words) * size ≤ length (now places)) ⌝ }
     requires { ⌜ PlacesFit (now places) 0 (skip + length (now words) * size) (length (now grid)) ⌝ }
-    ensures { λ _. ⌜ now (grid .exit) ≡ writes (now (grid .entry)) (λ (i : ℕ). getD (now (places .entry)) i 0) (wordsBit size skip (now (words .entry))) (skip + length (now (words .entry)) * size) ⌝ }
+    ensures { λ _. ⌜ now (grid .exit) ≡ writes (now (grid .entry)) (λ (i : ℕ). getD (now (places .entry)) i 0)
+        (wordsBit size skip (now (words .entry))) (skip + length (now (words .entry)) * size) ⌝ }
 {
     draw_zeros(skip, places, grid);
     let mut w = 0;
@@ -75,7 +77,8 @@ fn draw_mode(full: bool, layers: usize, mode_words: &[u16], grid: &mut [u8])
 
 // The block at its places, with a table for them.
 fn draw_block_by(at: &mut [u16], full: bool, layers: usize, block: &[u16], grid: &mut [u8])
-    requires { ⌜ Shaped full layers ⌝ ∗ ⌜ (area full layers ≤ length (now grid)) × (length (now block) ≡ words full layers) × (bits full layers ≤ length (now at)) ⌝ }
+    requires { ⌜ Shaped full layers ⌝
+        ∗ ⌜ (area full layers ≤ length (now grid)) × (length (now block) ≡ words full layers) × (bits full layers ≤ length (now at)) ⌝ }
     ensures { λ _. ⌜ now (grid .exit) ≡ withBlock full layers (now (block .entry)) (now (grid .entry)) ⌝ }
 {
     places::data_places(full, layers, at);
@@ -90,7 +93,8 @@ fn draw_block_by(at: &mut [u16], full: bool, layers: usize, block: &[u16], grid:
 
 // A local array is cleared at each call, so a small symbol has a small table: four layers have at most 704 bits, all 32 have 19,968.
 fn draw_small(full: bool, layers: usize, block: &[u16], grid: &mut [u8])
-    requires { ⌜ Shaped full layers ⌝ ∗ ⌜ layers ≤ 4 ⌝ ∗ ⌜ (area full layers ≤ length (now grid)) × (length (now block) ≡ words full layers) ⌝ }
+    requires { ⌜ Shaped full layers ⌝ ∗ ⌜ layers ≤ 4 ⌝
+        ∗ ⌜ (area full layers ≤ length (now grid)) × (length (now block) ≡ words full layers) ⌝ }
     ensures { λ _. ⌜ now (grid .exit) ≡ withBlock full layers (now (block .entry)) (now (grid .entry)) ⌝ }
 {
     let mut at = [0u16; 704];

@@ -31,7 +31,8 @@ fn after_shift(entry: codes::Entry, used: usize) -> Found
 fn shift_item(words: &[u16], h: usize, place: Place, left: usize, used: usize, set: usize) -> Found
     requires { ⌜ h < 16 ⌝ ∗ ⌜ used ≤ 5 ⌝ ∗ ⌜ set < 5 ⌝ }
     requires { ⌜ left ≡ length (rest h (now words) (place .word) (place .bit)) ⌝ }
-    ensures { λ r. ⌜ ((l : List ℕ) → rest h (now (words .entry)) (place .word) (place .bit) ≡ drop used l → length l ≡ used + left → r ≡ spec.itemBy l used (Shift set)) ⌝ }
+    ensures { λ r. ⌜ ((l : List ℕ) → rest h (now (words .entry)) (place .word) (place .bit) ≡ drop used l → length l ≡ used + left
+        → r ≡ spec.itemBy l used (Shift set)) ⌝ }
 {
     let width = codes::width_of(set);
     if left < width {
@@ -56,7 +57,8 @@ fn raw_item(left: usize, used: usize, n: usize) -> Found
 fn count_item(words: &[u16], h: usize, place: Place, left: usize, used: usize) -> Found
     requires { ⌜ h < 16 ⌝ ∗ ⌜ used ≤ 5 ⌝ }
     requires { ⌜ left ≡ length (rest h (now words) (place .word) (place .bit)) ⌝ }
-    ensures { λ r. ⌜ ((l : List ℕ) → rest h (now (words .entry)) (place .word) (place .bit) ≡ drop used l → length l ≡ used + left → r ≡ spec.countAt l used) ⌝ }
+    ensures { λ r. ⌜ ((l : List ℕ) → rest h (now (words .entry)) (place .word) (place .bit) ≡ drop used l
+        → length l ≡ used + left → r ≡ spec.countAt l used) ⌝ }
 {
     if left < 5 {
         return Found::Fault(20);

@@ -69,7 +69,8 @@ fn smaller(a: usize, b: usize) -> usize
 pub fn take_bits(words: &[u16], h: usize, place: Place, n: usize) -> Bits
     requires { ⌜ h < 16 ⌝ ∗ ⌜ n ≤ 16 ⌝ }
     requires { ⌜ n ≤ length (rest h (now words) (place .word) (place .bit)) ⌝ }
-    ensures { λ r. ⌜ Taken (rest h (now (words .entry)) (place .word) (place .bit)) n (r .value) (rest h (now (words .entry)) (r .next .word) (r .next .bit)) ⌝ }
+    ensures { λ r. ⌜ Taken (rest h (now (words .entry)) (place .word) (place .bit)) n (r .value)
+        (rest h (now (words .entry)) (r .next .word) (r .next .bit)) ⌝ }
 {
     let mut word = place.word;
     let mut bit = place.bit;

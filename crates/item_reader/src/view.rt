@@ -24,7 +24,8 @@ pub fn at<'a>(words: &'a [u16], size: usize, place: Place) -> View<'a>
 // The item at a view's place, read in a set, where so many bits are left.
 pub fn item<'a>(view: View<'a>, left: usize, set: usize) -> Found
     requires { ⌜ Ready (now (view .words)) (view .size) (view .place .word) (view .place .bit) left set ⌝ }
-    ensures { λ r. ⌜ r ≡ spec.itemAt set (rest (view .entry .size - 1) (now (view .entry .words)) (view .entry .place .word) (view .entry .place .bit)) ⌝ }
+    ensures { λ r. ⌜ r ≡ spec.itemAt set
+        (rest (view .entry .size - 1) (now (view .entry .words)) (view .entry .place .word) (view .entry .place .bit)) ⌝ }
 {
     items::item_at(view.words, view.size, view.place, left, set)
 }

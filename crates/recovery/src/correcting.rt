@@ -36,7 +36,9 @@ fn correct_mode_with(
 ) -> bool
     requires { ⌜ (2 * shape.core full < n) × (n ≤ 151) × (n * n ≤ length (now upright)) ⌝ }
     requires { ⌜ (length (now received) ≡ modeRun full) × (length (now marks) ≡ modeRun full) × (length (now corrected) ≡ modeRun full) ⌝ }
-    ensures { λ r. ⌜ Corrected r (now (corrected .exit)) (nearest (sizeOf 4) (modeChecks full) (modeChecks full) (modeWordsOf full n (now (upright .entry))) (modeMarksOf full n (now (upright .entry)))) ⌝ }
+    ensures { λ r. ⌜ Corrected r (now (corrected .exit))
+        (nearest (sizeOf 4) (modeChecks full) (modeChecks full) (modeWordsOf full n (now (upright .entry)))
+        (modeMarksOf full n (now (upright .entry)))) ⌝ }
 {
     blocks::read_mode(full, n, upright, received, marks);
     reed_solomon::correct(4, mode_checks_of(full), received, marks, corrected) == 0
@@ -45,7 +47,9 @@ fn correct_mode_with(
 // The mode words of an upright grid; whether there are any within the limit.
 pub fn correct_mode(full: bool, n: usize, upright: &[u8], corrected: &mut [u16]) -> bool
     requires { ⌜ (2 * shape.core full < n) × (n ≤ 151) × (n * n ≤ length (now upright)) × (length (now corrected) ≡ modeRun full) ⌝ }
-    ensures { λ r. ⌜ Corrected r (now (corrected .exit)) (nearest (sizeOf 4) (modeChecks full) (modeChecks full) (modeWordsOf full n (now (upright .entry))) (modeMarksOf full n (now (upright .entry)))) ⌝ }
+    ensures { λ r. ⌜ Corrected r (now (corrected .exit))
+        (nearest (sizeOf 4) (modeChecks full) (modeChecks full) (modeWordsOf full n (now (upright .entry)))
+        (modeMarksOf full n (now (upright .entry)))) ⌝ }
 {
     let mut received = [0u16; 10];
     let mut marks = [0u8; 10];
@@ -82,12 +86,17 @@ pub fn correct_block(
     upright: &[u8],
     found: &mut [u16],
 ) -> bool
-    requires { ⌜ shape.Shaped full layers ⌝ ∗ ⌜ (area full layers ≤ length (now upright)) × (1 ≤ «data_words») × («data_words» + 3 ≤ shape.words full layers) ⌝ }
+    requires { ⌜ shape.Shaped full layers ⌝
+        ∗ ⌜ (area full layers ≤ length (now upright)) × (1 ≤ «data_words») × («data_words» + 3 ≤ shape.words full layers) ⌝ }
     requires { ⌜ (length (now received) ≡ shape.words full layers) × (length (now unread) ≡ shape.words full layers) ⌝ }
     requires { ⌜ (length (now marks) ≡ shape.words full layers) × (length (now found) ≡ shape.words full layers) ⌝ }
     ensures { λ _. ⌜ now (received .exit) ≡ blockWordsOf full layers (now (upright .entry)) ⌝ }
     ensures { λ _. ⌜ now (unread .exit) ≡ blockMarksOf full layers (now (upright .entry)) ⌝ }
-    ensures { λ r. ⌜ Corrected r (now (found .exit)) (nearest (sizeOf (shape.wordSize layers)) (shape.words full layers - «data_words») (shape.words full layers - «data_words») (blockWordsOf full layers (now (upright .entry))) (flatMarked (shape.wordSize layers) «data_words» (blockWordsOf full layers (now (upright .entry))) (blockMarksOf full layers (now (upright .entry))))) ⌝ }
+    ensures { λ r. ⌜ Corrected r (now (found .exit))
+        (nearest (sizeOf (shape.wordSize layers)) (shape.words full layers - «data_words») (shape.words full layers - «data_words»)
+        (blockWordsOf full layers (now (upright .entry)))
+        (flatMarked (shape.wordSize layers) «data_words» (blockWordsOf full layers (now (upright .entry)))
+        (blockMarksOf full layers (now (upright .entry))))) ⌝ }
 {
     let size = shapes::word_size_of(layers);
     blocks::read_block(full, layers, upright, received, unread);

@@ -29,9 +29,12 @@ fn propose(
     g: &mut [u16],
     corrections: &mut [u16],
 )
-    requires { ⌜ Tables (sizeOf size) (now powers) (now logs) ⌝ ∗ ⌜ Words (sizeOf size) (now s) ⌝ ∗ ⌜ steps.ZeroFrom «check_words» (now s) ⌝ ∗ ⌜ length (now marks) < length (now s) ⌝ }
-    requires { ⌜ unread (now marks) ≤ limit ⌝ ∗ ⌜ limit ≤ «check_words» ⌝ ∗ ⌜ «check_words» < length (now marks) ⌝ ∗ ⌜ length (now marks) < 2 ^ bits (sizeOf size) ⌝ }
-    requires { ⌜ steps.Blank (length (now marks)) (now u) ⌝ ∗ ⌜ steps.Blank (length (now marks)) (now p) ⌝ ∗ ⌜ steps.Blank (length (now marks)) (now q) ⌝ }
+    requires { ⌜ Tables (sizeOf size) (now powers) (now logs) ⌝ ∗ ⌜ Words (sizeOf size) (now s) ⌝ ∗ ⌜ steps.ZeroFrom «check_words» (now s) ⌝
+        ∗ ⌜ length (now marks) < length (now s) ⌝ }
+    requires { ⌜ unread (now marks) ≤ limit ⌝ ∗ ⌜ limit ≤ «check_words» ⌝ ∗ ⌜ «check_words» < length (now marks) ⌝
+        ∗ ⌜ length (now marks) < 2 ^ bits (sizeOf size) ⌝ }
+    requires { ⌜ steps.Blank (length (now marks)) (now u) ⌝ ∗ ⌜ steps.Blank (length (now marks)) (now p) ⌝
+        ∗ ⌜ steps.Blank (length (now marks)) (now q) ⌝ }
     requires { ⌜ steps.Blank (length (now marks)) (now g) ⌝ ∗ ⌜ steps.Blank (length (now marks)) (now corrections) ⌝ }
     ensures { λ _. ⌜ steps.Proposed (sizeOf size) «check_words» limit (now (marks .entry)) (now (s .entry)) (now (corrections .exit)) ⌝ }
 {
@@ -45,8 +48,10 @@ fn propose(
 
 // The received block with the corrections.
 fn write(received: &[u16], marks: &[u8], corrections: &[u16], corrected: &mut [u16])
-    requires { ⌜ length (now marks) ≡ length (now received) ⌝ ∗ ⌜ length (now corrected) ≡ length (now received) ⌝ ∗ ⌜ length (now received) ≤ length (now corrections) ⌝ }
-    ensures { λ _. ⌜ now (corrected .exit) ≡ tabulate (steps.writtenAt (now (received .entry)) (now (marks .entry)) (now (corrections .entry))) (length (now (received .entry))) ⌝ }
+    requires { ⌜ length (now marks) ≡ length (now received) ⌝ ∗ ⌜ length (now corrected) ≡ length (now received) ⌝
+        ∗ ⌜ length (now received) ≤ length (now corrections) ⌝ }
+    ensures { λ _. ⌜ now (corrected .exit) ≡ tabulate
+        (steps.writtenAt (now (received .entry)) (now (marks .entry)) (now (corrections .entry))) (length (now (received .entry))) ⌝ }
 {
     let mut i = 0;
     while i < received.len() {
@@ -76,11 +81,17 @@ fn solve(
     corrections: &mut [u16],
     corrected: &mut [u16],
 ) -> u32
-    requires { ⌜ Tables (sizeOf size) (now powers) (now logs) ⌝ ∗ ⌜ steps.Lawful (sizeOf size) «check_words» limit (now received) (now marks) ⌝ ∗ ⌜ length (now corrected) ≡ length (now received) ⌝ }
-    requires { ⌜ steps.Blank (length (now received)) (now s) ⌝ ∗ ⌜ steps.Blank (length (now received)) (now u) ⌝ ∗ ⌜ steps.Blank (length (now received)) (now p) ⌝ }
-    requires { ⌜ steps.Blank (length (now received)) (now q) ⌝ ∗ ⌜ steps.Blank (length (now received)) (now g) ⌝ ∗ ⌜ steps.Blank (length (now received)) (now corrections) ⌝ }
-    ensures { λ r. ⌜ r ≡ answers.answer (nearest (sizeOf size) «check_words» limit (now (received .entry)) (now (marks .entry))) (now (corrected .entry)) .number ⌝ }
-    ensures { λ r. ⌜ now (corrected .exit) ≡ answers.answer (nearest (sizeOf size) «check_words» limit (now (received .entry)) (now (marks .entry))) (now (corrected .entry)) .words ⌝ }
+    requires { ⌜ Tables (sizeOf size) (now powers) (now logs) ⌝
+        ∗ ⌜ steps.Lawful (sizeOf size) «check_words» limit (now received) (now marks) ⌝
+        ∗ ⌜ length (now corrected) ≡ length (now received) ⌝ }
+    requires { ⌜ steps.Blank (length (now received)) (now s) ⌝ ∗ ⌜ steps.Blank (length (now received)) (now u) ⌝
+        ∗ ⌜ steps.Blank (length (now received)) (now p) ⌝ }
+    requires { ⌜ steps.Blank (length (now received)) (now q) ⌝ ∗ ⌜ steps.Blank (length (now received)) (now g) ⌝
+        ∗ ⌜ steps.Blank (length (now received)) (now corrections) ⌝ }
+    ensures { λ r. ⌜ r ≡ answers.answer
+        (nearest (sizeOf size) «check_words» limit (now (received .entry)) (now (marks .entry))) (now (corrected .entry)) .number ⌝ }
+    ensures { λ r. ⌜ now (corrected .exit) ≡ answers.answer
+        (nearest (sizeOf size) «check_words» limit (now (received .entry)) (now (marks .entry))) (now (corrected .entry)) .words ⌝ }
 {
     if limit < accept::count_marks(marks) {
         return 34;
@@ -165,11 +176,18 @@ fn examine(
     corrections: &mut [u16],
     corrected: &mut [u16],
 ) -> u32
-    requires { ⌜ Tables (sizeOf size) (now powers) (now logs) ⌝ ∗ ⌜ length (now marks) ≡ length (now received) ⌝ ∗ ⌜ length (now corrected) ≡ length (now received) ⌝ }
-    requires { ⌜ (length (now received) < 2 ^ bits (sizeOf size) → steps.Blank (length (now received)) (now s)) ⌝ ∗ ⌜ (length (now received) < 2 ^ bits (sizeOf size) → steps.Blank (length (now received)) (now u)) ⌝ ∗ ⌜ (length (now received) < 2 ^ bits (sizeOf size) → steps.Blank (length (now received)) (now p)) ⌝ }
-    requires { ⌜ (length (now received) < 2 ^ bits (sizeOf size) → steps.Blank (length (now received)) (now q)) ⌝ ∗ ⌜ (length (now received) < 2 ^ bits (sizeOf size) → steps.Blank (length (now received)) (now g)) ⌝ ∗ ⌜ (length (now received) < 2 ^ bits (sizeOf size) → steps.Blank (length (now received)) (now corrections)) ⌝ }
-    ensures { λ r. ⌜ r ≡ answers.judgeOf (sizeOf size) «check_words» (now (received .entry)) (now (marks .entry)) (now (corrected .entry)) .number ⌝ }
-    ensures { λ r. ⌜ now (corrected .exit) ≡ answers.judgeOf (sizeOf size) «check_words» (now (received .entry)) (now (marks .entry)) (now (corrected .entry)) .words ⌝ }
+    requires { ⌜ Tables (sizeOf size) (now powers) (now logs) ⌝ ∗ ⌜ length (now marks) ≡ length (now received) ⌝
+        ∗ ⌜ length (now corrected) ≡ length (now received) ⌝ }
+    requires { ⌜ (length (now received) < 2 ^ bits (sizeOf size) → steps.Blank (length (now received)) (now s)) ⌝
+        ∗ ⌜ (length (now received) < 2 ^ bits (sizeOf size) → steps.Blank (length (now received)) (now u)) ⌝
+        ∗ ⌜ (length (now received) < 2 ^ bits (sizeOf size) → steps.Blank (length (now received)) (now p)) ⌝ }
+    requires { ⌜ (length (now received) < 2 ^ bits (sizeOf size) → steps.Blank (length (now received)) (now q)) ⌝
+        ∗ ⌜ (length (now received) < 2 ^ bits (sizeOf size) → steps.Blank (length (now received)) (now g)) ⌝
+        ∗ ⌜ (length (now received) < 2 ^ bits (sizeOf size) → steps.Blank (length (now received)) (now corrections)) ⌝ }
+    ensures { λ r. ⌜ r ≡ answers.judgeOf (sizeOf size) «check_words» (now (received .entry))
+        (now (marks .entry)) (now (corrected .entry)) .number ⌝ }
+    ensures { λ r. ⌜ now (corrected .exit) ≡ answers.judgeOf (sizeOf size) «check_words» (now (received .entry))
+        (now (marks .entry)) (now (corrected .entry)) .words ⌝ }
 {
     let n = received.len();
     if powers.len() <= n {
@@ -215,9 +233,12 @@ fn judge_small(
     marks: &[u8],
     corrected: &mut [u16],
 ) -> u32
-    requires { ⌜ Tables (sizeOf size) (now powers) (now logs) ⌝ ∗ ⌜ length (now marks) ≡ length (now received) ⌝ ∗ ⌜ length (now corrected) ≡ length (now received) ⌝ ∗ ⌜ length (now received) < 256 ⌝ }
-    ensures { λ r. ⌜ r ≡ answers.judgeOf (sizeOf size) «check_words» (now (received .entry)) (now (marks .entry)) (now (corrected .entry)) .number ⌝ }
-    ensures { λ r. ⌜ now (corrected .exit) ≡ answers.judgeOf (sizeOf size) «check_words» (now (received .entry)) (now (marks .entry)) (now (corrected .entry)) .words ⌝ }
+    requires { ⌜ Tables (sizeOf size) (now powers) (now logs) ⌝ ∗ ⌜ length (now marks) ≡ length (now received) ⌝
+        ∗ ⌜ length (now corrected) ≡ length (now received) ⌝ ∗ ⌜ length (now received) < 256 ⌝ }
+    ensures { λ r. ⌜ r ≡ answers.judgeOf (sizeOf size) «check_words» (now (received .entry))
+        (now (marks .entry)) (now (corrected .entry)) .number ⌝ }
+    ensures { λ r. ⌜ now (corrected .exit) ≡ answers.judgeOf (sizeOf size) «check_words» (now (received .entry))
+        (now (marks .entry)) (now (corrected .entry)) .words ⌝ }
 {
     let mut s = small_zeros();
     let mut u = small_zeros();
@@ -252,9 +273,12 @@ fn judge_large(
     marks: &[u8],
     corrected: &mut [u16],
 ) -> u32
-    requires { ⌜ Tables (sizeOf size) (now powers) (now logs) ⌝ ∗ ⌜ length (now marks) ≡ length (now received) ⌝ ∗ ⌜ length (now corrected) ≡ length (now received) ⌝ }
-    ensures { λ r. ⌜ r ≡ answers.judgeOf (sizeOf size) «check_words» (now (received .entry)) (now (marks .entry)) (now (corrected .entry)) .number ⌝ }
-    ensures { λ r. ⌜ now (corrected .exit) ≡ answers.judgeOf (sizeOf size) «check_words» (now (received .entry)) (now (marks .entry)) (now (corrected .entry)) .words ⌝ }
+    requires { ⌜ Tables (sizeOf size) (now powers) (now logs) ⌝ ∗ ⌜ length (now marks) ≡ length (now received) ⌝
+        ∗ ⌜ length (now corrected) ≡ length (now received) ⌝ }
+    ensures { λ r. ⌜ r ≡ answers.judgeOf (sizeOf size) «check_words» (now (received .entry))
+        (now (marks .entry)) (now (corrected .entry)) .number ⌝ }
+    ensures { λ r. ⌜ now (corrected .exit) ≡ answers.judgeOf (sizeOf size) «check_words» (now (received .entry))
+        (now (marks .entry)) (now (corrected .entry)) .words ⌝ }
 {
     let mut s = large_zeros();
     let mut u = large_zeros();
@@ -289,9 +313,12 @@ pub fn judge(
     marks: &[u8],
     corrected: &mut [u16],
 ) -> u32
-    requires { ⌜ Tables (sizeOf size) (now powers) (now logs) ⌝ ∗ ⌜ length (now marks) ≡ length (now received) ⌝ ∗ ⌜ length (now corrected) ≡ length (now received) ⌝ }
-    ensures { λ r. ⌜ r ≡ answers.judgeOf (sizeOf size) «check_words» (now (received .entry)) (now (marks .entry)) (now (corrected .entry)) .number ⌝ }
-    ensures { λ r. ⌜ now (corrected .exit) ≡ answers.judgeOf (sizeOf size) «check_words» (now (received .entry)) (now (marks .entry)) (now (corrected .entry)) .words ⌝ }
+    requires { ⌜ Tables (sizeOf size) (now powers) (now logs) ⌝ ∗ ⌜ length (now marks) ≡ length (now received) ⌝
+        ∗ ⌜ length (now corrected) ≡ length (now received) ⌝ }
+    ensures { λ r. ⌜ r ≡ answers.judgeOf (sizeOf size) «check_words» (now (received .entry))
+        (now (marks .entry)) (now (corrected .entry)) .number ⌝ }
+    ensures { λ r. ⌜ now (corrected .exit) ≡ answers.judgeOf (sizeOf size) «check_words» (now (received .entry))
+        (now (marks .entry)) (now (corrected .entry)) .words ⌝ }
 {
     if received.len() < 256 {
         return judge_small(size, powers, logs, check_words, received, marks, corrected);

@@ -13,8 +13,10 @@ pub fn correct(
     marks: &[u8],
     corrected: &mut [u16],
 ) -> u32
-    ensures { λ r. ⌜ r ≡ correctOf «word_size» «check_words» (now (received .entry)) (now (marks .entry)) (now (corrected .entry)) .number ⌝ }
-    ensures { λ r. ⌜ now (corrected .exit) ≡ correctOf «word_size» «check_words» (now (received .entry)) (now (marks .entry)) (now (corrected .entry)) .words ⌝ }
+    ensures { λ r. ⌜ r ≡ correctOf «word_size» «check_words» (now (received .entry))
+        (now (marks .entry)) (now (corrected .entry)) .number ⌝ }
+    ensures { λ r. ⌜ now (corrected .exit) ≡ correctOf «word_size» «check_words» (now (received .entry))
+        (now (marks .entry)) (now (corrected .entry)) .words ⌝ }
 {
     if marks.len() != received.len() {
         return 31;

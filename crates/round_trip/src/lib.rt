@@ -21,7 +21,8 @@ fn trip_in(
 ) -> Decoded
     requires { ⌜ (22801 ≤ length (now made)) × (22801 ≤ length (now tag)) × (position < 8) ⌝ }
     ensures { λ r. ⌜ r ≡ roundTripIn (now (message .entry)) percent position (now (changes .entry)) (now (read .entry)) .answer ⌝ }
-    ensures { λ r. ⌜ now (read .exit) ≡ roundTripIn (now (message .entry)) percent position (now (changes .entry)) (now (read .entry)) .message ⌝ }
+    ensures { λ r. ⌜ now (read .exit) ≡ roundTripIn (now (message .entry)) percent position
+        (now (changes .entry)) (now (read .entry)) .message ⌝ }
 {
     let answer = encoder::encode(message, percent, made);
     if answer.number != 0 {
@@ -50,9 +51,12 @@ pub fn round_trip(
     read: &mut [u8],
 ) -> Decoded
     ensures { λ r. ⌜ r ≡ roundTripOf (now (message .entry)) percent position (now (changes .entry)) (now (read .entry)) .answer ⌝ }
-    ensures { λ r. ⌜ now (read .exit) ≡ roundTripOf (now (message .entry)) percent position (now (changes .entry)) (now (read .entry)) .message ⌝ }
-    ensures reads_back { λ r. ⌜ ReadsBack (now (message .entry)) percent (position % 8) (now (changes .entry)) (now (read .entry)) r (now (read .exit)) ⌝ }
-    ensures reads_unchanged { λ r. ⌜ ReadsUnchanged (now (message .entry)) percent (position % 8) (now (changes .entry)) (now (read .entry)) r (now (read .exit)) ⌝ }
+    ensures { λ r. ⌜ now (read .exit) ≡ roundTripOf (now (message .entry)) percent position
+        (now (changes .entry)) (now (read .entry)) .message ⌝ }
+    ensures reads_back { λ r.
+        ⌜ ReadsBack (now (message .entry)) percent (position % 8) (now (changes .entry)) (now (read .entry)) r (now (read .exit)) ⌝ }
+    ensures reads_unchanged { λ r.
+        ⌜ ReadsUnchanged (now (message .entry)) percent (position % 8) (now (changes .entry)) (now (read .entry)) r (now (read .exit)) ⌝ }
 {
     let mut made = [0u8; 22801];
     let mut tag = [0u8; 22801];

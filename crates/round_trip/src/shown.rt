@@ -54,8 +54,10 @@ pub fn read_shown(
     read: &mut [u8],
 ) -> Decoded
     requires { ⌜ (side ≤ 151) × (position < 8) × (side * side ≡ length (now made)) × (side * side ≡ length (now tag)) ⌝ }
-    ensures { λ r. ⌜ r ≡ decodeOf (damaged (placed side position (now (made .entry))) (now (changes .entry))) side (now (read .entry)) .answer ⌝ }
-    ensures { λ r. ⌜ now (read .exit) ≡ decodeOf (damaged (placed side position (now (made .entry))) (now (changes .entry))) side (now (read .entry)) .message ⌝ }
+    ensures { λ r. ⌜ r ≡ decodeOf
+        (damaged (placed side position (now (made .entry))) (now (changes .entry))) side (now (read .entry)) .answer ⌝ }
+    ensures { λ r. ⌜ now (read .exit) ≡ decodeOf
+        (damaged (placed side position (now (made .entry))) (now (changes .entry))) side (now (read .entry)) .message ⌝ }
 {
     turning::turn_upright(side as usize, back_of(position), made, tag);
     damage(changes, tag);

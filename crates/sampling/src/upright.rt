@@ -48,7 +48,8 @@ fn line_of(n: usize, position: usize, row: usize) -> Line
 
 fn turn_row(n: usize, position: usize, row: usize, grid: &[u8], upright: &mut [u8])
     requires { ⌜ (position < 8) × (n ≤ 151) × (row < n) × (n * n ≡ length (now grid)) × (n * n ≤ length (now upright)) ⌝ }
-    ensures { λ _. ⌜ now (upright .exit) ≡ writes (now (upright .entry)) (λ (c : ℕ). row * n + c) (λ (c : ℕ). moduleAt n position (now (grid .entry)) (row * n + c)) n ⌝ }
+    ensures { λ _. ⌜ now (upright .exit) ≡ writes (now (upright .entry)) (λ (c : ℕ). row * n + c)
+        (λ (c : ℕ). moduleAt n position (now (grid .entry)) (row * n + c)) n ⌝ }
 {
     let line = line_of(n, position, row);
     let first = row * n;
@@ -63,7 +64,8 @@ fn turn_row(n: usize, position: usize, row: usize, grid: &[u8], upright: &mut [u
 // The first n * n modules are the upright grid's, row by row.
 pub fn turn_upright(n: usize, position: usize, grid: &[u8], upright: &mut [u8])
     requires { ⌜ (position < 8) × (n ≤ 151) × (n * n ≡ length (now grid)) × (n * n ≤ length (now upright)) ⌝ }
-    ensures { λ _. ⌜ now (upright .exit) ≡ writes (now (upright .entry)) (λ (k : ℕ). k) (moduleAt n position (now (grid .entry))) (n * n) ⌝ }
+    ensures { λ _. ⌜ now (upright .exit) ≡ writes (now (upright .entry)) (λ (k : ℕ). k)
+        (moduleAt n position (now (grid .entry))) (n * n) ⌝ }
 {
     let mut row = 0;
     while row < n {

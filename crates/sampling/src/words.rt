@@ -28,7 +28,8 @@ fn mark_with(mark: u8, seen: u8) -> u8
 // The word whose places start at `from`.
 fn read_word(size: usize, from: usize, places: &[u16], upright: &[u8]) -> Word
     requires { ⌜ (size ≤ 12) × (from + size ≤ length (now places)) ⌝ ∗ ⌜ PlacesFit (now places) from size (length (now upright)) ⌝ }
-    ensures { λ r. ⌜ (r .value ≡ value size (λ (b : ℕ). tabled (now (places .entry)) (now (upright .entry)) (from + b))) × (r .mark ≡ unread size (λ (b : ℕ). tabled (now (places .entry)) (now (upright .entry)) (from + b))) ⌝ }
+    ensures { λ r. ⌜ (r .value ≡ value size (λ (b : ℕ). tabled (now (places .entry)) (now (upright .entry)) (from + b)))
+        × (r .mark ≡ unread size (λ (b : ℕ). tabled (now (places .entry)) (now (upright .entry)) (from + b))) ⌝ }
 {
     let mut value = 0u16;
     let mut mark = 0u8;
@@ -52,10 +53,13 @@ pub fn read_words(
     words: &mut [u16],
     marks: &mut [u8],
 )
-    requires { ⌜ (1 ≤ size) × (size ≤ 12) × (length (now marks) ≡ length (now words)) × (skip + length (now words) * size ≤ length (now places)) ⌝ }
+    requires { ⌜ (1 ≤ size) × (size ≤ 12) × (length (now marks) ≡ length (now words))
+        × (skip + length (now words) * size ≤ length (now places)) ⌝ }
     requires { ⌜ PlacesFit (now places) 0 (skip + length (now words) * size) (length (now upright)) ⌝ }
-    ensures { λ _. ⌜ now (words .exit) ≡ tabulate (λ (w : ℕ). value size (tableModule size skip (now (places .entry)) (now (upright .entry)) w)) (length (now (words .entry))) ⌝ }
-    ensures { λ _. ⌜ now (marks .exit) ≡ tabulate (λ (w : ℕ). unread size (tableModule size skip (now (places .entry)) (now (upright .entry)) w)) (length (now (words .entry))) ⌝ }
+    ensures { λ _. ⌜ now (words .exit) ≡ tabulate
+        (λ (w : ℕ). value size (tableModule size skip (now (places .entry)) (now (upright .entry)) w)) (length (now (words .entry))) ⌝ }
+    ensures { λ _. ⌜ now (marks .exit) ≡ tabulate
+        (λ (w : ℕ). unread size (tableModule size skip (now (places .entry)) (now (upright .entry)) w)) (length (now (words .entry))) ⌝ }
 {
     let mut w = 0;
     while w < words.len() {

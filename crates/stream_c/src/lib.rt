@@ -23,7 +23,8 @@ pub extern "C" fn stream_count(message: &[u8], word_size: u32) -> usize
 #[no_mangle]
 pub extern "C" fn stream_write(message: &[u8], word_size: u32, words: &mut [u16]) -> usize
     requires { ⌜ (2 ≤ «word_size») × («word_size» ≤ 12) × (length (now message) ≤ 4992) ⌝ }
-    ensures { λ r. ⌜ (r ≡ length (stuff «word_size» (bitsOf (now (message .entry))))) × (now (words .exit) ≡ sets (now (words .entry)) 0 (stuff «word_size» (bitsOf (now (message .entry))))) ⌝ }
+    ensures { λ r. ⌜ (r ≡ length (stuff «word_size» (bitsOf (now (message .entry)))))
+        × (now (words .exit) ≡ sets (now (words .entry)) 0 (stuff «word_size» (bitsOf (now (message .entry))))) ⌝ }
 {
     stream_writer::encoding::write_words(message, word_size as usize, words)
 }

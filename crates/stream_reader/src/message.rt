@@ -94,7 +94,8 @@ pub fn judge(words: &[u16], word_size: usize) -> Verdict
 fn write_raw(words: &[u16], h: usize, place: Place, n: usize, message: &mut [u8], from: usize)
     requires { ⌜ h < 16 ⌝ ∗ ⌜ 8 * n ≤ length (rest h (now words) (place .word) (place .bit)) ⌝ }
     requires { ⌜ from + n ≤ length (now message) ⌝ }
-    ensures { λ _. ⌜ now (message .exit) ≡ sets (now (message .entry)) from (spec.bytesOf n (rest h (now (words .entry)) (place .word) (place .bit))) ⌝ }
+    ensures { λ _. ⌜ now (message .exit) ≡ sets (now (message .entry)) from
+        (spec.bytesOf n (rest h (now (words .entry)) (place .word) (place .bit))) ⌝ }
 {
     let mut next = place;
     let mut i = 0;
@@ -110,7 +111,8 @@ fn write_raw(words: &[u16], h: usize, place: Place, n: usize, message: &mut [u8]
 fn write_item(words: &[u16], h: usize, place: Place, item: Item, message: &mut [u8], from: usize)
     requires { ⌜ h < 16 ⌝ ∗ ⌜ spec.extra item ≤ length (rest h (now words) (place .word) (place .bit)) ⌝ }
     requires { ⌜ from + spec.yields item ≤ length (now message) ⌝ }
-    ensures { λ _. ⌜ now (message .exit) ≡ sets (now (message .entry)) from (spec.adds item (rest h (now (words .entry)) (place .word) (place .bit))) ⌝ }
+    ensures { λ _. ⌜ now (message .exit) ≡ sets (now (message .entry)) from
+        (spec.adds item (rest h (now (words .entry)) (place .word) (place .bit))) ⌝ }
 {
     match item {
         Item::Single(b) => {

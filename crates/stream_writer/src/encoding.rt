@@ -83,7 +83,8 @@ fn put_bytes(
     count: usize,
 ) -> Out
     requires { ⌜ Ready h 3000000 out ⌝ ∗ ⌜ (from + count ≤ length (now message)) × (count ≤ 31) ⌝ }
-    ensures { λ r. ⌜ Wrote h (stream.bytesBits (take count (drop from (now (message .entry))))) out (now (words .entry)) r (now (words .exit)) ⌝ }
+    ensures { λ r. ⌜ Wrote h (stream.bytesBits (take count (drop from (now (message .entry))))) out
+        (now (words .entry)) r (now (words .exit)) ⌝ }
 {
     let mut last = out;
     let mut j = 0;
@@ -105,7 +106,8 @@ fn put_part(
     count: usize,
 ) -> Out
     requires { ⌜ Ready h 2000000 out ⌝ ∗ ⌜ (set < 5) × (from + count ≤ length (now message)) × (count ≤ 31) ⌝ }
-    ensures { λ r. ⌜ Wrote h (stream.partBits set (take count (drop from (now (message .entry))))) out (now (words .entry)) r (now (words .exit)) ⌝ }
+    ensures { λ r. ⌜ Wrote h (stream.partBits set (take count (drop from (now (message .entry))))) out
+        (now (words .entry)) r (now (words .exit)) ⌝ }
 {
     let path = codes::latch(set, run_set_of(set));
     let latched = stuffing::put_code(words, out, h, path.code, path.bits);

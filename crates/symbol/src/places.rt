@@ -94,7 +94,8 @@ fn mode_column(full: bool, j: usize) -> usize
 // The places of the mode message's bits on one side of the core ring: `run` bits, side s clockwise from the upper.
 fn mode_side(full: bool, n: usize, run: usize, s: usize, places: &mut [u16])
     requires { ⌜ (2 * core full < n) × (n ≤ 151) × (s < 4) × (run ≡ modeRun full) × (4 * modeRun full ≤ length (now places)) ⌝ }
-    ensures { λ _. ⌜ now (places .exit) ≡ writes (now (places .entry)) (λ (j : ℕ). s * run + j) (λ (j : ℕ). modePlace full n (s * run + j)) run ⌝ }
+    ensures { λ _. ⌜ now (places .exit) ≡ writes (now (places .entry)) (λ (j : ℕ). s * run + j)
+        (λ (j : ℕ). modePlace full n (s * run + j)) run ⌝ }
 {
     let mut j = 0;
     while j < run {
@@ -209,7 +210,8 @@ fn side_places(
     places: &mut [u16],
 )
     requires { ⌜ Ready full layers (now lines) layer (length (now places)) × (s < 4) ⌝ }
-    ensures { λ _. ⌜ now (places .exit) ≡ writes (now (places .entry)) (λ (m : ℕ). layer .first + (s * run layer + m)) (λ (m : ℕ). dataPlace full layers (layer .first + (s * run layer + m))) (run layer) ⌝ }
+    ensures { λ _. ⌜ now (places .exit) ≡ writes (now (places .entry)) (λ (m : ℕ). layer .first + (s * run layer + m))
+        (λ (m : ℕ). dataPlace full layers (layer .first + (s * run layer + m))) (run layer) ⌝ }
 {
     let n = shapes::side_of(full, layers);
     let dominoes = layer.square - 2;
@@ -226,7 +228,8 @@ fn side_places(
 // The places of a layer's bits, side by side.
 fn layer_places(full: bool, layers: usize, lines: &[u16; 142], layer: Layer, places: &mut [u16])
     requires { ⌜ Ready full layers (now lines) layer (length (now places)) ⌝ }
-    ensures { λ _. ⌜ now (places .exit) ≡ writes (now (places .entry)) (λ (m : ℕ). layer .first + m) (λ (m : ℕ). dataPlace full layers (layer .first + m)) (4 * run layer) ⌝ }
+    ensures { λ _. ⌜ now (places .exit) ≡ writes (now (places .entry)) (λ (m : ℕ). layer .first + m)
+        (λ (m : ℕ). dataPlace full layers (layer .first + m)) (4 * run layer) ⌝ }
 {
     let mut s = 0;
     while s < 4 {
