@@ -15,12 +15,23 @@ use Rattle.finite_field.specs.Field.{WordSize, Word}
 use Rattle.finite_field.specs.Instance.{wordField, word, entry, word-xor}
 use Rattle.block_code.specs.Block.{Words}
 use Rattle.block_code.specs.Nearest.{marked}
+use Rattle.reed_solomon.specs.Work.{Work}
 use Rattle.correction.specs.Steps.{Readable, Blank, readWord, corrected, writtenAt}
 use Rattle.block_code.specs.WordLists.{words-tabulate}
 use Rattle.correction.proofs.Elements.{xor-word}
 
-pub blank-for : {m n : ℕ} {l : List ℕ} → m ≡ n → Blank n l → Blank m l
+blank-for : {m n : ℕ} {l : List ℕ} → m ≡ n → Blank n l → Blank m l
 blank-for e b = record { longer = omega (arith, b .longer); zeros = b .zeros }
+
+pub work-for : {m n : ℕ} {u p q g corrections : List ℕ} → m ≡ n → Work n u p q g corrections → Work m u p q g corrections
+work-for e w =
+    record {
+      erased = blank-for e (w .erased);
+      locator = blank-for e (w .locator);
+      shorter = blank-for e (w .shorter);
+      vanishing = blank-for e (w .vanishing);
+      missing = blank-for e (w .missing);
+    }
 
 zero-at : (k j : ℕ) → _≡_ {A = ℕ} (getD (replicate k 0) j 0) 0
 zero-at zero j = refl
@@ -33,6 +44,17 @@ blank-zeros k e h = record {
   longer = omega (arith, ap length e, length-replicate {A = ℕ} k 0);
   zeros = λ j _. ap (λ x. getD x j 0) e ∙ zero-at k j;
 }
+
+pub work-zeros : {n : ℕ} (k : ℕ) {u p q g corrections : List ℕ} → u ≡ replicate k 0 → p ≡ replicate k 0 → q ≡ replicate k 0
+    → g ≡ replicate k 0 → corrections ≡ replicate k 0 → n < k → Work n u p q g corrections
+work-zeros k a b c d e h =
+    record {
+      erased = blank-zeros k a h;
+      locator = blank-zeros k b h;
+      shorter = blank-zeros k c h;
+      vanishing = blank-zeros k d h;
+      missing = blank-zeros k e h;
+    }
 
 module _ (s : WordSize) where
   written-case : (b : Bool) (r c : ℕ) → (T (not b) → Word s r) → Word s c

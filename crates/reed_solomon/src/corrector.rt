@@ -8,6 +8,7 @@ ghost use Rattle.finite_field.specs.Tables.{Tables};
 ghost use Rattle.block_code.specs.Block.{Words};
 ghost use Rattle.block_code.specs.Nearest.{nearest, unread};
 ghost use Rattle.reed_solomon.specs.Correct as answers;
+ghost use Rattle.reed_solomon.specs.Work.{Work};
 ghost use Rattle.correction.specs.Steps as steps;
 use correction::accept;
 use correction::locator;
@@ -33,9 +34,7 @@ fn propose(
         ∗ ⌜ length (now marks) < length (now s) ⌝ }
     requires { ⌜ unread (now marks) ≤ limit ⌝ ∗ ⌜ limit ≤ «check_words» ⌝ ∗ ⌜ «check_words» < length (now marks) ⌝
         ∗ ⌜ length (now marks) < 2 ^ bits (sizeOf size) ⌝ }
-    requires { ⌜ steps.Blank (length (now marks)) (now u) ⌝ ∗ ⌜ steps.Blank (length (now marks)) (now p) ⌝
-        ∗ ⌜ steps.Blank (length (now marks)) (now q) ⌝ }
-    requires { ⌜ steps.Blank (length (now marks)) (now g) ⌝ ∗ ⌜ steps.Blank (length (now marks)) (now corrections) ⌝ }
+    requires { ⌜ Work (length (now marks)) (now u) (now p) (now q) (now g) (now corrections) ⌝ }
     ensures { λ _. ⌜ steps.Proposed (sizeOf size) «check_words» limit (now (marks .entry)) (now (s .entry)) (now (corrections .exit)) ⌝ }
 {
     let t = (limit - accept::count_marks(marks)) / 2;
@@ -84,10 +83,8 @@ fn solve(
     requires { ⌜ Tables (sizeOf size) (now powers) (now logs) ⌝
         ∗ ⌜ steps.Lawful (sizeOf size) «check_words» limit (now received) (now marks) ⌝
         ∗ ⌜ length (now corrected) ≡ length (now received) ⌝ }
-    requires { ⌜ steps.Blank (length (now received)) (now s) ⌝ ∗ ⌜ steps.Blank (length (now received)) (now u) ⌝
-        ∗ ⌜ steps.Blank (length (now received)) (now p) ⌝ }
-    requires { ⌜ steps.Blank (length (now received)) (now q) ⌝ ∗ ⌜ steps.Blank (length (now received)) (now g) ⌝
-        ∗ ⌜ steps.Blank (length (now received)) (now corrections) ⌝ }
+    requires { ⌜ steps.Blank (length (now received)) (now s) ⌝
+        ∗ ⌜ Work (length (now received)) (now u) (now p) (now q) (now g) (now corrections) ⌝ }
     ensures { λ r. ⌜ r ≡ answers.answer
         (nearest (sizeOf size) «check_words» limit (now (received .entry)) (now (marks .entry))) (now (corrected .entry)) .number ⌝ }
     ensures { λ r. ⌜ now (corrected .exit) ≡ answers.answer
@@ -178,12 +175,9 @@ fn examine(
 ) -> u32
     requires { ⌜ Tables (sizeOf size) (now powers) (now logs) ⌝ ∗ ⌜ length (now marks) ≡ length (now received) ⌝
         ∗ ⌜ length (now corrected) ≡ length (now received) ⌝ }
-    requires { ⌜ (length (now received) < 2 ^ bits (sizeOf size) → steps.Blank (length (now received)) (now s)) ⌝
-        ∗ ⌜ (length (now received) < 2 ^ bits (sizeOf size) → steps.Blank (length (now received)) (now u)) ⌝
-        ∗ ⌜ (length (now received) < 2 ^ bits (sizeOf size) → steps.Blank (length (now received)) (now p)) ⌝ }
-    requires { ⌜ (length (now received) < 2 ^ bits (sizeOf size) → steps.Blank (length (now received)) (now q)) ⌝
-        ∗ ⌜ (length (now received) < 2 ^ bits (sizeOf size) → steps.Blank (length (now received)) (now g)) ⌝
-        ∗ ⌜ (length (now received) < 2 ^ bits (sizeOf size) → steps.Blank (length (now received)) (now corrections)) ⌝ }
+    requires { ⌜ (length (now received) < 2 ^ bits (sizeOf size) → steps.Blank (length (now received)) (now s)) ⌝ }
+    requires { ⌜ (length (now received) < 2 ^ bits (sizeOf size) → Work (length (now received)) (now u) (now p) (now q) (now g)
+        (now corrections)) ⌝ }
     ensures { λ r. ⌜ r ≡ answers.judgeOf (sizeOf size) «check_words» (now (received .entry))
         (now (marks .entry)) (now (corrected .entry)) .number ⌝ }
     ensures { λ r. ⌜ now (corrected .exit) ≡ answers.judgeOf (sizeOf size) «check_words» (now (received .entry))

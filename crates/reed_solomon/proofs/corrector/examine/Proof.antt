@@ -81,7 +81,7 @@ solve-requires c κs =
         l,
         (
           s .pre .1 .1 .0,
-          (s .pre .1 .1 .1 .0 lt, (s .pre .1 .1 .1 .1 .0 lt, (s .pre .1 .1 .1 .1 .1 .0 lt, (s .pre .1 .1 .1 .1 .1 .1 .0 lt, (s .pre .1 .1 .1 .1 .1 .1 .1 .0 lt, s .pre .1 .1 .1 .1 .1 .1 .1 .1 lt))))),
+          (s .pre .1 .1 .1 .0 lt, s .pre .1 .1 .1 .1 lt),
         ),
       ),
     )

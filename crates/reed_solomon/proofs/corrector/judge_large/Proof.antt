@@ -4,7 +4,7 @@ use borrow.Author.Needs.{needs}
 use native.Mathlib.Omega.{arith}
 use Rattle.finite_field.specs.Field.{sizeOf}
 use Rattle.finite_field.specs.FieldLaws.{most-words}
-use Rattle.reed_solomon.proofs.Solving.{blank-zeros}
+use Rattle.reed_solomon.proofs.Solving.{blank-zeros, work-zeros}
 use Rattle.reed_solomon.proofs.corrector.judge_large.Statement.{statement}
 use Rattle.reed_solomon.proofs.corrector.judge_large.Tie as tie
 
@@ -55,19 +55,12 @@ examine-requires c κs =
           start .pre .1 .1,
           (
             λ h. blank-zeros 4096 (c .before .before .before .before .before .before .before .before .before .before .before .before .large-zeros .ensures) (omega arith),
-            (
-              λ h. blank-zeros 4096 (c .before .before .before .before .before .before .before .before .before .before .before .large-zeros2 .ensures) (omega arith),
-              (
-                λ h. blank-zeros 4096 (c .before .before .before .before .before .before .before .before .before .before .large-zeros3 .ensures) (omega arith),
-                (
-                  λ h. blank-zeros 4096 (c .before .before .before .before .before .before .before .before .before .large-zeros4 .ensures) (omega arith),
-                  (
-                    λ h. blank-zeros 4096 (c .before .before .before .before .before .before .before .before .large-zeros5 .ensures) (omega arith),
-                    λ h. blank-zeros 4096 (c .before .before .before .before .before .before .before .large-zeros6 .ensures) (omega arith),
-                  ),
-                ),
-              ),
-            ),
+            λ h.
+                work-zeros 4096 (c .before .before .before .before .before .before .before .before .before .before .before .large-zeros2 .ensures)
+                (c .before .before .before .before .before .before .before .before .before .before .large-zeros3 .ensures)
+                (c .before .before .before .before .before .before .before .before .before .large-zeros4 .ensures)
+                (c .before .before .before .before .before .before .before .before .large-zeros5 .ensures)
+                (c .before .before .before .before .before .before .before .large-zeros6 .ensures) (omega arith),
           ),
         ),
       ),

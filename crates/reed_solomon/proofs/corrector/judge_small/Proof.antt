@@ -1,7 +1,7 @@
 -- The work arrays are zeros, and longer than a lawful block.
 -- Assumes nothing.
 use borrow.Author.Needs.{needs}
-use Rattle.reed_solomon.proofs.Solving.{blank-zeros}
+use Rattle.reed_solomon.proofs.Solving.{blank-zeros, work-zeros}
 use Rattle.reed_solomon.proofs.corrector.judge_small.Statement.{statement}
 use Rattle.reed_solomon.proofs.corrector.judge_small.Tie as tie
 
@@ -51,19 +51,12 @@ examine-requires c κs =
           start .pre .1 .1 .0,
           (
             λ h. blank-zeros 256 (c .before .before .before .before .before .before .before .before .before .before .before .before .small-zeros .ensures) (start .pre .1 .1 .1),
-            (
-              λ h. blank-zeros 256 (c .before .before .before .before .before .before .before .before .before .before .before .small-zeros2 .ensures) (start .pre .1 .1 .1),
-              (
-                λ h. blank-zeros 256 (c .before .before .before .before .before .before .before .before .before .before .small-zeros3 .ensures) (start .pre .1 .1 .1),
-                (
-                  λ h. blank-zeros 256 (c .before .before .before .before .before .before .before .before .before .small-zeros4 .ensures) (start .pre .1 .1 .1),
-                  (
-                    λ h. blank-zeros 256 (c .before .before .before .before .before .before .before .before .small-zeros5 .ensures) (start .pre .1 .1 .1),
-                    λ h. blank-zeros 256 (c .before .before .before .before .before .before .before .small-zeros6 .ensures) (start .pre .1 .1 .1),
-                  ),
-                ),
-              ),
-            ),
+            λ h.
+                work-zeros 256 (c .before .before .before .before .before .before .before .before .before .before .before .small-zeros2 .ensures)
+                (c .before .before .before .before .before .before .before .before .before .before .small-zeros3 .ensures)
+                (c .before .before .before .before .before .before .before .before .before .small-zeros4 .ensures)
+                (c .before .before .before .before .before .before .before .before .small-zeros5 .ensures)
+                (c .before .before .before .before .before .before .before .small-zeros6 .ensures) (start .pre .1 .1 .1),
           ),
         ),
       ),

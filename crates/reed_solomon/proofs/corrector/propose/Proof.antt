@@ -37,7 +37,7 @@ entries : (c : tie.After-copy) (j : ℕ) → getD (c .copy .last .1 .1 .0) j 0 �
 entries c j =
     let a = start (counted c) in
     ap (λ l. getD l j 0) (c .copy .ensures)
-    ∙ copied (a .args .s .now) (a .args .u .now) (a .pre .1 .1 .0) (a .pre .1 .1 .1 .1 .1 .1 .1 .1 .0 .zeros) j
+    ∙ copied (a .args .s .now) (a .args .u .now) (a .pre .1 .1 .0) (a .pre .1 .1 .1 .1 .1 .1 .1 .1 .erased .zeros) j
 
 count-marks-requires : tie.Need-count-marks-requires
 count-marks-requires c κs = search needs
@@ -57,7 +57,7 @@ erase-requires c κs =
         λ i. subst (Word (sizeOf (a .args .size))) (sym (entries e i)) (a .pre .1 .0 i),
         (
           omega (arith, a .pre .1 .1 .1 .1 .1 .1 .1 .0),
-          (omega (arith, e .copy .kept .1 .1 .0, a .pre .1 .1 .1 .1 .1 .1 .1 .1 .0 .longer, a .pre .1 .1 .1 .1 .1 .1 .0), λ j h. entries e j ∙ a .pre .1 .1 .0 j h),
+          (omega (arith, e .copy .kept .1 .1 .0, a .pre .1 .1 .1 .1 .1 .1 .1 .1 .erased .longer, a .pre .1 .1 .1 .1 .1 .1 .0), λ j h. entries e j ∙ a .pre .1 .1 .0 j h),
         ),
       ),
     )
@@ -72,8 +72,8 @@ locate-requires c κs =
       (
         e .erase .ensures .words,
         (
-          omega (arith, e .erase .kept .1 .1 .1 .1 .1 .0, copying e .copy .kept .1 .1 .0, a .pre .1 .1 .1 .1 .1 .1 .1 .1 .0 .longer),
-          (omega (arith, a .pre .1 .1 .1 .1 .1 .1 .1 .1 .1 .0 .longer), (omega (arith, a .pre .1 .1 .1 .1 .1 .1 .1 .1 .1 .1 .0 .longer), (a .pre .1 .1 .1 .1 .1 .1 .1 .1 .1 .0 .zeros, a .pre .1 .1 .1 .1 .1 .1 .1 .1 .1 .1 .0 .zeros))),
+          omega (arith, e .erase .kept .1 .1 .1 .1 .1 .0, copying e .copy .kept .1 .1 .0, a .pre .1 .1 .1 .1 .1 .1 .1 .1 .erased .longer),
+          (omega (arith, a .pre .1 .1 .1 .1 .1 .1 .1 .1 .locator .longer), (omega (arith, a .pre .1 .1 .1 .1 .1 .1 .1 .1 .shorter .longer), (a .pre .1 .1 .1 .1 .1 .1 .1 .1 .locator .zeros, a .pre .1 .1 .1 .1 .1 .1 .1 .1 .shorter .zeros))),
         ),
       ),
     )
@@ -88,8 +88,8 @@ gather-requires c κs =
       (
         l .locate .ensures .words,
         (
-          omega (arith, l .locate .ensures .length-le, l .locate .kept .1 .1 .1 .1 .1 .0, a .pre .1 .1 .1 .1 .1 .1 .1 .1 .1 .0 .longer),
-          (omega (arith, a .pre .1 .1 .1 .1 .1 .1 .1 .0), (omega (arith, a .pre .1 .1 .1 .1 .1 .1 .1 .1 .1 .1 .1 .1 .longer), (a .pre .1 .1 .1 .1 .1 .1 .1 .1 .1 .1 .1 .0 .longer, (a .pre .1 .1 .1 .1 .1 .1 .1 .1 .1 .1 .1 .1 .zeros, a .pre .1 .1 .1 .1 .1 .1 .1 .1 .1 .1 .1 .0 .zeros)))),
+          omega (arith, l .locate .ensures .length-le, l .locate .kept .1 .1 .1 .1 .1 .0, a .pre .1 .1 .1 .1 .1 .1 .1 .1 .locator .longer),
+          (omega (arith, a .pre .1 .1 .1 .1 .1 .1 .1 .0), (omega (arith, a .pre .1 .1 .1 .1 .1 .1 .1 .1 .missing .longer), (a .pre .1 .1 .1 .1 .1 .1 .1 .1 .vanishing .longer, (a .pre .1 .1 .1 .1 .1 .1 .1 .1 .missing .zeros, a .pre .1 .1 .1 .1 .1 .1 .1 .1 .vanishing .zeros)))),
         ),
       ),
     )
@@ -108,11 +108,11 @@ corrections-requires c κs =
         (
           a .pre .1 .0,
           (
-            omega (arith, f .gather .kept .1 .1 .1 .1 .1 .1 .1 .0, a .pre .1 .1 .1 .1 .1 .1 .1 .1 .1 .1 .1 .0 .longer),
+            omega (arith, f .gather .kept .1 .1 .1 .1 .1 .1 .1 .0, a .pre .1 .1 .1 .1 .1 .1 .1 .1 .vanishing .longer),
             (
               omega (arith, a .pre .1 .1 .1 .0),
               (
-                omega (arith, f .gather .kept .1 .1 .1 .1 .1 .1 .0, a .pre .1 .1 .1 .1 .1 .1 .1 .1 .1 .1 .1 .1 .longer),
+                omega (arith, f .gather .kept .1 .1 .1 .1 .1 .1 .0, a .pre .1 .1 .1 .1 .1 .1 .1 .1 .missing .longer),
                 (
                   omega (arith, a .pre .1 .1 .1 .1 .1 .1 .1 .0),
                   (

@@ -13,7 +13,7 @@ use Rattle.reed_solomon.specs.Correct.{answer}
 use Rattle.block_code.specs.Nearest.{nearest}
 use Rattle.block_code.specs.NearestLaws.{too-many-marks, answer-found, answer-none}
 use Rattle.correction.specs.Steps.{SyndromesOf, readWord, writtenAt}
-use Rattle.reed_solomon.proofs.Solving.{blank-for, written-words, written-entry}
+use Rattle.reed_solomon.proofs.Solving.{work-for, written-words, written-entry}
 use Rattle.reed_solomon.proofs.corrector.solve.Statement.{statement}
 use Rattle.reed_solomon.proofs.corrector.solve.Tie as tie
 
@@ -74,8 +74,7 @@ propose-requires c κs =
     let e = c .before .before .before .before .before .before .before .before in
     let n = counted e in
     let a = start n in
-    let l = a .pre .1 .0 in
-    let same = l .same-length in (
+    let l = a .pre .1 .0 in (
       a .pre .0,
       (
         e .syndromes .ensures .words,
@@ -91,13 +90,7 @@ propose-requires c κs =
                   omega (arith, l .check-lt),
                   (
                     omega (arith, l .length-lt),
-                    (
-                      blank-for same (a .pre .1 .1 .1 .1 .0),
-                      (
-                        blank-for same (a .pre .1 .1 .1 .1 .1 .0),
-                        (blank-for same (a .pre .1 .1 .1 .1 .1 .1 .0), (blank-for same (a .pre .1 .1 .1 .1 .1 .1 .1 .0), blank-for same (a .pre .1 .1 .1 .1 .1 .1 .1 .1))),
-                      ),
-                    ),
+                    work-for (l .same-length) (a .pre .1 .1 .1 .1),
                   ),
                 ),
               ),
@@ -119,7 +112,7 @@ is-near-requires c κs =
         (
           e .syndromes .ensures .words,
           (
-            omega (arith, p .propose .kept .1 .1 .1 .1 .1 .1 .1 .1 .1 .1 .1 .0, a .pre .1 .1 .1 .1 .1 .1 .1 .1 .longer, l .same-length),
+            omega (arith, p .propose .kept .1 .1 .1 .1 .1 .1 .1 .1 .1 .1 .1 .0, a .pre .1 .1 .1 .1 .missing .longer, l .same-length),
             (omega (arith, l .length-lt, l .same-length), omega (arith, e .syndromes .kept .1 .1 .1 .1 .1 .1 .0, a .pre .1 .1 .1 .0 .longer, l .check-lt)),
           ),
         ),
@@ -130,7 +123,7 @@ write-requires : tie.Need-write-requires
 write-requires c κs =
     let p = proposing (c .before .before .before .before .before) in
     let a = start (counted (summed p)) in
-    (a .pre .1 .0 .same-length, (a .pre .1 .1 .0, omega (arith, p .propose .kept .1 .1 .1 .1 .1 .1 .1 .1 .1 .1 .1 .0, a .pre .1 .1 .1 .1 .1 .1 .1 .1 .longer)))
+    (a .pre .1 .0 .same-length, (a .pre .1 .1 .0, omega (arith, p .propose .kept .1 .1 .1 .1 .1 .1 .1 .1 .1 .1 .1 .0, a .pre .1 .1 .1 .1 .missing .longer)))
 
 same-length : tie.Need-same-length
 same-length c = search needs
