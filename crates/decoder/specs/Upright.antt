@@ -1,4 +1,4 @@
--- The stages over the grid turned upright, as the code has it, and that they are those of Decode.
+-- The stages over the grid turned upright, as the code has them.
 -- Assumes nothing.
 use mathlib.Core.Path.{_≡_, sym, ap, _∙_, subst}
 use mathlib.Core.Bool.{Bool, true, false, cond}

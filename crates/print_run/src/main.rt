@@ -1,5 +1,5 @@
 // Lists a print run (document 01, "The print run"): a line for each record of 32 bytes of standard input, or of the file that the one
-// argument names. What goes wrong is said on standard error; a program of this language has no exit status (scripts/print_run gives one).
+// argument names. What goes wrong is said on standard error; a program of this language has no exit status.
 //
 // Proved: every access lies in its buffer; the program ends if each call of C's does, after 2^63 records at the latest; list_block leaves at
 // the front of `lines` the lines of the bytes in the block, numbered from `first`, and a block that another follows is full. By

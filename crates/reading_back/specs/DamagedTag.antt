@@ -4,7 +4,7 @@ use mathlib.Core.Path.{_≡_, refl, sym, ap, ap₂, _∙_, subst}
 use mathlib.Core.Bool.{Bool, true, false, not, cond}
 use mathlib.Core.List.{List, _++_}
 use mathlib.Core.Option.{some}
-use Prim.Native.Nat.{ℕ, suc, _+_, _*_, _-_, _/_, _%_, _^_, _≤_, _<_}
+use Prim.Native.Nat.{ℕ, _+_, _*_, _-_, _/_, _%_, _^_, _≤_, _<_}
 use native.Mathlib.Nat.{le-refl}
 use native.Mathlib.Omega.{arith}
 use lib.Dec.{T, eqb, leb, le→leb}
@@ -18,7 +18,7 @@ use Rattle.list_laws.specs.Range.{count, count-same, count-not, all, all-of}
 use Rattle.list_laws.specs.Tests.{true-of}
 use Rattle.finite_field.specs.Field as field
 use Rattle.block_code.specs.Block.{Valid}
-use Rattle.block_code.specs.Nearest.{differ, marked}
+use Rattle.block_code.specs.Nearest.{marked}
 use Rattle.block_code.specs.Nearest as nearest
 use Rattle.block_code.specs.NearestLaws.{nearest-some}
 use Rattle.stream.specs.Below.{Bytes}
@@ -43,10 +43,7 @@ use Rattle.encoder.specs.Encode.{block}
 use Rattle.encoder.specs.Fitting.{Fitting, size-is, block-valid, length-block}
 use Rattle.recovery.specs.Stages.{modeWordsIn, modeMarksIn, modeIn, saidLayers, saidWords, lawfulMode, blockWordsIn, blockMarksIn, blockIn, unreadWords, wrongWords}
 use Rattle.decoder.specs.Decode.{refused, delivered, deliver, readStream, readBlock, readShape, readMode, readIn, readGrid, decodeOf}
-
--- "within the limit if 2r + e is at most its K, with e of its words marked and r of the rest unlike the made words"
-abbrev pub Within : ℕ → List ℕ → List ℕ → List ℕ → Type 0
-Within K received marks made = 2 * differ received marks made + nearest.unread marks ≤ K
+use Rattle.reading_back.specs.Within.{Within}
 
 -- words and marks of one table, the words below 2^B: a valid block within the limit is found
 found : (s : field.WordSize) (K n : ℕ) (word mark : ℕ → ℕ) (made : List ℕ) → ((w : ℕ) → word w < 2 ^ field.bits s) → n < 2 ^ field.bits s

@@ -3,3 +3,4 @@ pub mod DamagedTag
 pub mod Exactness
 pub mod ReadsBack
 pub mod Undamaged
+pub mod Within

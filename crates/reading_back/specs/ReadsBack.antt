@@ -1,11 +1,11 @@
--- Demand 3's last sentence (document 01, "Demand 3's words"): a made tag is read back, whatever happened to its modules and in each of the
+-- Demand 3's last two sentences (document 01, "Demand 3's words"): a made tag is read back, whatever happened to its modules and in each of the
 -- eight positions, if there is room, at most one of the twelve orientation modules is wrong or unread, and both the mode words and the
 -- block are within the limit.
 -- Assumes nothing.
 use mathlib.Core.Path.{_≡_, refl, sym, ap, ap₂, _∙_, subst}
 use mathlib.Core.Bool.{Bool, not}
 use mathlib.Core.List.{List, _++_}
-use Prim.Native.Nat.{ℕ, _+_, _*_, _-_, _≤_, _<_}
+use Prim.Native.Nat.{ℕ, _+_, _*_, _≤_, _<_}
 use native.Mathlib.Nat.{le-refl}
 use native.Mathlib.Omega.{arith}
 use lib.Dec.{eqb}
@@ -22,7 +22,8 @@ use Rattle.encoder.specs.Encode.{block, drawnMessage, encodeOf}
 use Rattle.encoder.specs.EncodeLaws.{encode-made, Answered, answered}
 use Rattle.recovery.specs.Stages.{modeWordsIn, modeMarksIn, blockWordsIn, blockMarksIn, unreadWords, wrongWords}
 use Rattle.decoder.specs.Decode.{Result, decodeOf}
-use Rattle.reading_back.specs.DamagedTag.{Within, tag-read}
+use Rattle.reading_back.specs.Within.{Within}
+use Rattle.reading_back.specs.DamagedTag.{tag-read}
 
 module _ (message : List ℕ) (percent : ℕ) where
   -- the shape that the encoder takes: family, layers, side, D and K

@@ -12,7 +12,6 @@ use Rattle.list_laws.specs.Filled.{tabulate, length-tabulate, getD-tabulate}
 use Rattle.list_laws.specs.Range.{count, count-none, count-first, count-same}
 use Rattle.list_laws.specs.Writes.{writes}
 use Rattle.block_code.specs.Nearest.{marked}
-use Rattle.block_code.specs.Nearest as nearest
 use Rattle.stream.specs.Below.{Bytes}
 use Rattle.stream.specs.Stream.{bitsOf}
 use Rattle.stream.specs.StreamLength.{message-bits}
@@ -31,7 +30,7 @@ use Rattle.encoder.specs.EncodeLaws.{Answered}
 use Rattle.encoder.specs.Fitting.{size-is, block-valid}
 use Rattle.recovery.specs.Stages.{modeWordsIn, modeMarksIn, blockMark, blockWordsIn, blockMarksIn, unreadWords, wrongWords}
 use Rattle.decoder.specs.Decode.{decodeOf}
-use Rattle.reading_back.specs.DamagedTag.{Within}
+use Rattle.reading_back.specs.Within.{Within}
 use Rattle.reading_back.specs.ReadsBack.{full, L, n, D, K, madeTag, spoilt, Shows, readBack, known, made-symbol, reads-back}
 
 -- nothing passes: none is counted

@@ -1,1 +1,1 @@
-// Theory only: demand 3's last sentence, over the definitions that encode and decode meet. There is no code.
+// Theory only: demand 3, over the definitions that correct, encode and decode meet. There is no code.

@@ -1,4 +1,4 @@
-// The corrector for lawful words: the nearest valid block, or 34.
+// The corrector past number 31 and the word size: 32 for the counts, 33, then the nearest valid block, or 34.
 ghost use mathlib.Core.Path.{_≡_};
 ghost use Prim.Native.Nat.{ℕ, _≤_, _<_, _^_};
 ghost use lib.ListN.{length, replicate};

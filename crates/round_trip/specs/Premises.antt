@@ -14,7 +14,7 @@ use Rattle.encoder.specs.Plan.{planOf}
 use Rattle.encoder.specs.ModeMessage.{modeChecks, modeWords}
 use Rattle.encoder.specs.Encode.{block}
 use Rattle.recovery.specs.Stages.{modeWordsIn, modeMarksIn, blockWordsIn, blockMarksIn}
-use Rattle.reading_back.specs.DamagedTag.{Within}
+use Rattle.reading_back.specs.Within.{Within}
 use Rattle.reading_back.specs.ReadsBack.{full, L, n, D, K, madeTag, spoilt, Shows}
 use Rattle.reading_back.specs.Undamaged.{undamaged}
 use Rattle.round_trip.specs.Changes.{changedTo, damaged}
