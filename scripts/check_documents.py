@@ -36,7 +36,7 @@ def named_paths(text, roots):
 def files():
     for document in DOCUMENTS:
         for folder, roots in ROOTS.items():
-            if folder in document.parents and (folder == TOP or document.parent == folder):
+            if folder in (TOP, document.parent):
                 for path in sorted(set(named_paths(document.read_text(), roots))):
                     yield f"{document.relative_to(TOP)}: {path}", any(folder.glob(path))
 

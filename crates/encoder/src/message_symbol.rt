@@ -12,7 +12,7 @@ ghost use Rattle.symbol.specs.Drawing.{area};
 ghost use Rattle.encoder.specs.Encode.{block, drawnMessage};
 ghost use Rattle.encoder.specs.Fitting.{Fitting};
 
-// The message's words are written in place; check_words, which lends the rest of the block to its writer, does the rest.
+// The message's words are written in place, and the block goes to check_words, which lends its tail to its writer.
 fn fill_block(message: &[u8], full: bool, layers: usize, data_words: usize, words: &mut [u16])
     requires { ⌜ Fitting (now message) full layers «data_words» ⌝ ∗ ⌜ length (now words) ≡ shape.words full layers ⌝ }
     ensures { λ _. ⌜ now (words .exit) ≡ block (now (message .entry)) full layers ⌝ }

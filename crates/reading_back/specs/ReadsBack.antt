@@ -1,6 +1,6 @@
--- Demand 3's last two sentences (document 01, "Demand 3's words"): a made tag is read back, whatever happened to its modules and in each of the
--- eight positions, if there is room, at most one of the twelve orientation modules is wrong or unread, and both the mode words and the
--- block are within the limit.
+-- Demand 3's last two sentences (document 01, "Demand 3's words"): a made tag is read back, whatever happened to its modules and in each
+-- of the eight positions, if there is room, at most one of the twelve orientation modules is wrong or unread, and both the mode words and
+-- the block are within the limit.
 -- Assumes nothing.
 use mathlib.Core.Path.{_≡_, refl, sym, ap, ap₂, _∙_, subst}
 use mathlib.Core.Bool.{Bool, not}
