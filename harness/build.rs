@@ -1,6 +1,6 @@
-//! Links the archives under test, that of the stream only where it exists, and libfec only
-//! where its feature is asked for. Maker and reader are called only where the archive has
-//! them.
+//! Links the archives under test, that of the stream only where it exists, and libfec and
+//! another revision's archive only where their features are asked for. Maker and reader are
+//! called only where the archive has them.
 
 use std::{env, path::Path, process::Command};
 
@@ -29,6 +29,19 @@ fn main() {
     if env::var_os("CARGO_FEATURE_LIBFEC").is_some() {
         println!("cargo:rustc-link-lib=fec");
     }
+    if env::var_os("CARGO_FEATURE_REVISIONS").is_some() {
+        link_before();
+    }
+}
+
+/// The archive of another revision, each of its names with `before_` in front.
+fn link_before() {
+    println!("cargo:rerun-if-env-changed=AZTEC_BEFORE_DIR");
+    let folder = env::var("AZTEC_BEFORE_DIR").expect("AZTEC_BEFORE_DIR names the archive's folder");
+    let archive = Path::new(&folder).join("libaztec_before.a");
+    println!("cargo:rerun-if-changed={}", archive.display());
+    println!("cargo:rustc-link-search=native={folder}");
+    println!("cargo:rustc-link-lib=static=aztec_before");
 }
 
 /// Whether an archive defines a function, by `nm`, which comes with the linker.

@@ -100,7 +100,7 @@ impl Row {
             ours.push(seconds * self.unit.1);
             right &= same;
             if let Some(peer) = &peer {
-                let (seconds, same) = self.peer_run(peer, &cases);
+                let (seconds, same) = peer.run(&cases, self.rounds);
                 theirs.push(seconds * self.unit.1);
                 peer_right &= same;
             }
@@ -148,56 +148,5 @@ impl Row {
                 _ => number == 34,
             });
         (seconds, right)
-    }
-
-    /// libfec corrects in place, so each call needs a fresh copy. Copies for one round are
-    /// made before the clock starts; only the calls are timed.
-    fn peer_run(&self, peer: &Peer, cases: &[Case]) -> (f64, bool) {
-        let mut seconds = 0.0;
-        let mut right = true;
-        for _ in 0..self.rounds {
-            let mut copies: Vec<PeerBlock> = cases.iter().map(PeerBlock::of).collect();
-            let mut answered = vec![false; cases.len()];
-            let start = Instant::now();
-            for (copy, answered) in copies.iter_mut().zip(&mut answered) {
-                let words = black_box(&mut copy.words);
-                *answered = peer.correct(words, &mut copy.places, copy.marked);
-            }
-            seconds += start.elapsed().as_secs_f64();
-            for ((case, copy), answered) in cases.iter().zip(&copies).zip(answered) {
-                right &= match &case.known {
-                    Some(Ok(made)) => {
-                        answered && copy.words.iter().zip(made).all(|(&a, &b)| a == b as u32)
-                    }
-                    _ => !answered,
-                };
-            }
-        }
-        (seconds, right)
-    }
-}
-
-/// A block as libfec takes it: the places of marked words, with room for K, and words of
-/// the field everywhere.
-struct PeerBlock {
-    words: Vec<u32>,
-    places: Vec<i32>,
-    marked: usize,
-}
-
-impl PeerBlock {
-    fn of(case: &Case) -> PeerBlock {
-        let call = &case.call;
-        let words = call.received.iter().zip(&call.marks);
-        let words = words.map(|(&word, &mark)| if mark == 1 { 0 } else { word as u32 });
-        let marked = (0..call.marks.len()).filter(|&i| call.marks[i] == 1);
-        let mut places: Vec<i32> = marked.map(|i| i as i32).collect();
-        let marked = places.len();
-        places.resize(call.check_words.max(marked), 0);
-        PeerBlock {
-            words: words.collect(),
-            places,
-            marked,
-        }
     }
 }

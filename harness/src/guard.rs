@@ -18,6 +18,13 @@ extern "C" {
     ) -> u32;
 }
 
+/// A corrector: word size, check words, then three slices, each with its length.
+pub type Correct =
+    unsafe extern "C" fn(u32, usize, *const u16, usize, *const u8, usize, *mut u16, usize) -> u32;
+
+/// The library's.
+pub const LIBRARY: Correct = aztec_correct;
+
 /// The bare call, for the bench.
 pub fn correct(
     word_size: u32,
@@ -26,9 +33,21 @@ pub fn correct(
     marks: &[u8],
     corrected: &mut [u16],
 ) -> u32 {
+    correct_by(LIBRARY, word_size, check_words, received, marks, corrected)
+}
+
+/// The same by a corrector that is given.
+pub fn correct_by(
+    correct: Correct,
+    word_size: u32,
+    check_words: usize,
+    received: &[u16],
+    marks: &[u8],
+    corrected: &mut [u16],
+) -> u32 {
     // The three slices are alive and apart for the length of the call.
     unsafe {
-        aztec_correct(
+        correct(
             word_size,
             check_words,
             received.as_ptr(),

@@ -12,6 +12,8 @@
 //! run the print run's program; `harness own-listing [FILE]` lists by the harness's own maker.
 //! `harness draw-list FOLDER [--own]` draws 300 symbols for another reader.
 //! `harness draw-timed FOLDER` draws the symbols that the programs in `peers/` are timed on.
+//! `harness bench-revisions` times and compares the library with another revision's, where it was
+//! built with the feature `revisions`, as `scripts/compare_revisions.py` does.
 //! `harness soak SECONDS [--seed N]` compares corrector, maker and reader for a time, with a
 //! fresh seed unless one is given.
 
@@ -27,6 +29,8 @@ mod peer;
 mod random;
 mod reader;
 mod reference;
+#[cfg(feature = "revisions")]
+mod revisions;
 mod soak;
 mod stream;
 mod symbol;
@@ -40,7 +44,8 @@ const USAGE: &str = "usage: harness compare [--seed N] [--count N] | harness ben
        harness compare-decode [--seed N] [--count N] | harness bench-decode
        harness compare-listing PROGRAM [--seed N] [--count N] | harness bench-listing PROGRAM
        harness own-listing [FILE] | harness draw-list FOLDER [--own]
-       harness draw-timed FOLDER | harness soak SECONDS [--seed N]";
+       harness draw-timed FOLDER | harness soak SECONDS [--seed N]
+       harness bench-revisions";
 const SEED: u64 = 24_778;
 
 /// How many cases by chance, where `--count` doesn't say: blocks or messages for the corrector
@@ -78,6 +83,7 @@ fn main() -> ExitCode {
         ["draw-list", folder] => encode::draw::run(folder, false),
         ["draw-list", folder, "--own"] => encode::draw::run(folder, true),
         ["draw-timed", folder] => encode::timed::run(folder),
+        ["bench-revisions"] => bench_revisions(),
         ["soak", seconds] => soaked(seconds, None),
         ["soak", seconds, "--seed", seed] => soaked(seconds, Some(seed)),
         _ => usage(),
@@ -103,6 +109,15 @@ fn bench_stream() -> ExitCode {
 #[cfg(not(stream_c))]
 fn compare_stream(_seed: u64, _count: usize) -> ExitCode {
     bench_stream()
+}
+
+#[cfg(feature = "revisions")]
+use revisions::run as bench_revisions;
+
+#[cfg(not(feature = "revisions"))]
+fn bench_revisions() -> ExitCode {
+    eprintln!("built without another revision: scripts/compare_revisions.py builds one with it");
+    ExitCode::from(2)
 }
 
 fn usage() -> ExitCode {

@@ -5,7 +5,7 @@ use std::time::Instant;
 pub const RUNS: usize = 11;
 
 /// About as long as one run may take, in seconds.
-const A_RUN: f64 = 0.01;
+pub const A_RUN: f64 = 0.01;
 
 /// Seconds a call, of the fastest and of the slowest run.
 #[derive(Clone, Copy)]
@@ -21,7 +21,7 @@ impl Times {
     };
 
     /// Before the first run.
-    const NONE: Times = Times {
+    pub const NONE: Times = Times {
         fast: f64::INFINITY,
         slow: 0.0,
     };
@@ -42,7 +42,7 @@ impl Times {
         })
     }
 
-    fn with(self, run: f64) -> Times {
+    pub fn with(self, run: f64) -> Times {
         Times {
             fast: self.fast.min(run),
             slow: self.slow.max(run),
