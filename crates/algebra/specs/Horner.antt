@@ -3,8 +3,7 @@
 -- Assumes nothing.
 use mathlib.Core.Path.{_≡_, sym, ap, ap₂, _∙_}
 use mathlib.Core.Logic.{_≢_}
-use Prim.Native.Nat.{ℕ, zero, suc, _+_, _-_, _≤_, _<_}
-use native.Mathlib.Numerals.{add-one}
+use Prim.Native.Nat.{ℕ, zero, suc, _-_, _≤_, _<_}
 use native.Mathlib.Omega.{arith}
 use Rattle.algebra.specs.Field.{Field, ⊗-comm, ⊗-one, ⊗-left-comm}
 use Rattle.algebra.specs.Sums.{sum, pow, sum-none, sum-last, sum-cong, sum-mul, pow-zero, pow-suc, pow-swap, pow-ne}
@@ -18,10 +17,6 @@ module _ (F : Field) where
   unfoldable pub horner : ℕ → (ℕ → C) → C → C
   horner zero w x = 𝟘
   horner (suc n) w x = horner n w x ⊗ x ⊕ w n
-
-  pub horner-next : (n : ℕ) (w : ℕ → C) (x : C) → horner (n + 1) w x ≡ horner n w x ⊗ x ⊕ w n
-  unfolding horner
-  horner-next n w x = rw add-one
 
   -- the locator of place i of n
   abbrev pub locator : C → ℕ → ℕ → C

@@ -9,3 +9,4 @@ pub mod Roots
 pub mod Values
 pub mod Exactness
 pub mod Horner
+pub mod Folding

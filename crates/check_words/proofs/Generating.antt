@@ -17,7 +17,7 @@ use Rattle.block_code.specs.Block.{Words}
 use Rattle.block_code.specs.WordLists.{words-cons}
 use Rattle.block_code.specs.CheckWords.{timesRoot, generator}
 use Rattle.block_code.specs.CheckWordsLaws.{length-generator, generator-words}
-use Rattle.correction.proofs.Sequences.{not-yet-filled}
+use Rattle.evaluation.proofs.Elements.{not-yet-filled}
 
 module _ (s : WordSize) (k : ℕ) where
   -- word i of l times x + 2^k

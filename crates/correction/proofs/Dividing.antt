@@ -4,12 +4,12 @@
 use mathlib.Core.Path.{_≡_, sym, ap, ap₂, _∙_, subst}
 use mathlib.Core.List.{List}
 use Prim.Native.Nat.{ℕ, suc, _+_, _-_, _≤_, _<_}
-use native.Mathlib.Nat.{zero-add, le-refl}
+use native.Mathlib.Nat.{add-zero, zero-add, le-refl}
 use native.Mathlib.Omega.{arith}
 use lib.Pow.{pow-pos}
 use lib.ListN.{getD}
-use Rattle.algebra.specs.Field.{⊕-comm, ⊗-comm}
-use Rattle.algebra.specs.Sums.{pow, sum, sum-none, sum-cong}
+use Rattle.algebra.specs.Field.{Field, ⊕-comm, ⊗-comm}
+use Rattle.algebra.specs.Sums.{pow, sum, sum-none, sum-first, sum-cong}
 use Rattle.algebra.specs.KeyEquation.{dot}
 use Rattle.algebra.specs.Roots.{evalFrom, evalFrom-all, evalFrom-none, quotient}
 use Rattle.algebra.specs.Exactness.{correction}
@@ -30,8 +30,21 @@ use Rattle.finite_field.specs.Instance.{
   number-of-word,
 }
 use Rattle.correction.specs.Received.{Words}
-use Rattle.correction.proofs.Elements.{xor-word}
-use Rattle.correction.proofs.Evaluating.{eval-turn, sumFrom, sumFrom-step}
+use Rattle.evaluation.proofs.Elements.{xor-word}
+use Rattle.evaluation.proofs.Evaluating.{eval-turn}
+
+module _ (F : Field) where
+  -- the terms from j on
+  abbrev sumFrom : ℕ → (ℕ → F .C) → ℕ → F .C
+  sumFrom n f j = sum F (n - j) (λ i. f (j + i))
+
+  sumFrom-step : (n : ℕ) (f : ℕ → F .C) (j : ℕ) → 0 < j → j ≤ n → sumFrom n f (j - 1) ≡ F .add (f (j - 1)) (sumFrom n f j)
+  sumFrom-step n f j pos le =
+      let more : n - (j - 1) ≡ suc (n - j) = omega arith in
+      ap (λ m. sum F m (λ i. f (j - 1 + i))) more
+      ∙ sum-first F (n - j) (λ i. f (j - 1 + i))
+      ∙ ap₂ (F .add) (ap f (add-zero (j - 1)))
+      (sum-cong F (n - j) (λ i. f (j - 1 + suc i)) (λ i. f (j + i)) (λ i l. ap f (let e : j - 1 + suc i ≡ j + i = omega arith in e)))
 
 module _ (s : WordSize) (g syndromes : List ℕ) (m k : ℕ) where
   abbrev X : wordField s .C

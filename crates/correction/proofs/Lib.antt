@@ -1,11 +1,10 @@
-pub mod Elements
 pub mod Sequences
 pub mod Combining
 pub mod Turn
-pub mod Evaluating
 pub mod Rooting
 pub mod Gathering
 pub mod Dividing
 pub mod Correcting
 pub mod Settling
 pub mod Acceptance
+pub mod Coefficients

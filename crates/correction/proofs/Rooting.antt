@@ -18,7 +18,7 @@ use Rattle.finite_field.specs.FieldLaws.{product-word}
 use Rattle.finite_field.specs.Instance.{wordField, word, entry, x, word-times-power}
 use Rattle.correction.specs.Received.{Words}
 use Rattle.correction.specs.Steps.{Rooted}
-use Rattle.correction.proofs.Elements.{step-word, step-element}
+use Rattle.evaluation.proofs.Elements.{step-word, step-element}
 
 module _ (s : WordSize) (k : ℕ) where
   -- coefficient i above the lowest

@@ -1,5 +1,5 @@
 -- The loops over the words of a sequence: what one turn stores in place, and what the turns so far have made of the sequence, as
--- equations over the word field. Syndromes absorb a word a turn by Horner's rule; a marked place is taken out of them in a turn.
+-- equations over the word field. A marked place is taken out of them in a turn.
 -- Assumes nothing.
 use mathlib.Core.Path.{_≡_, refl, sym, ap, ap₂, _∙_, subst}
 use mathlib.Core.Logic.{_≢_}
@@ -16,36 +16,21 @@ use lib.ListN.{length, getD, set}
 use Rattle.list_laws.specs.Filled.{filled, filled-step, getD-filled, getD-unfilled}
 use Rattle.algebra.specs.Field.{⊕-comm, ⊕-zero, ⊗-comm, ⊗-zero}
 use Rattle.algebra.specs.Sums.{pow}
-use Rattle.algebra.specs.Horner.{horner, horner-next, horner-power-sum}
 use Rattle.algebra.specs.Erasures.{erase, erase-next, takeOut-marked, takeOut-read}
 use Rattle.finite_field.specs.Xor.{_⊕_}
 use Rattle.finite_field.specs.Field.{WordSize, bits, Word, product, power}
 use Rattle.finite_field.specs.Instance.{wordField, word, entry, x, word-zero}
 use Rattle.correction.specs.Received.{Words}
 use Rattle.correction.specs.Received.{marked}
-use Rattle.correction.specs.Steps.{ZeroFrom, Readable, place, readWord, Syndromes, Erased}
-use Rattle.correction.proofs.Elements.{step-word, step-element, filled-words}
-
--- what a loop that fills the buffer l has not come to is as it was
-pub not-yet-filled : (f : ℕ → ℕ) (n k : ℕ) (l : List ℕ) {b : List ℕ} → b ≡ filled f n l → n ≤ k → getD b k 0 ≡ getD l k 0
-not-yet-filled f n k l e h = ap (λ b. getD b k 0) e ∙ getD-unfilled f 0 n k l h
+use Rattle.correction.specs.Steps.{ZeroFrom, place, Erased}
+use Rattle.evaluation.proofs.Elements.{not-yet-filled, step-word, step-element, filled-words}
 
 module _ (s : WordSize) where
-  -- place j of l, with the word w absorbed
-  abbrev pub absorbing : ℕ → List ℕ → ℕ → ℕ
-  absorbing w l j = product s (getD l j 0) (power s (j + 1)) ⊕ w
-
   -- place j of l, with the locator 2^k taken out
   abbrev pub takingOut : ℕ → List ℕ → ℕ → ℕ
   takingOut k l j = product s (getD l j 0) (power s k) ⊕ getD l (j + 1) 0
 
   -- a turn at place j, where the product is r
-
-  pub absorbing-next : (w j : ℕ) (l : List ℕ) {b : List ℕ} {r : ℕ} → b ≡ filled (absorbing w l) j l
-      → r ≡ product s (getD b j 0) (power s (j + 1)) → j < length l → set b j (r ⊕ w) ≡ filled (absorbing w l) (j + 1) l
-  absorbing-next w j l e p h =
-      filled-step (absorbing w l) j l e
-      (ap (λ a. a ⊕ w) (p ∙ ap (λ a. product s a (power s (j + 1))) (not-yet-filled (absorbing w l) j j l e (le-refl j)))) h
 
   pub taking-out-next : (k j : ℕ) (l : List ℕ) {b : List ℕ} {r : ℕ} → b ≡ filled (takingOut k l) j l
       → r ≡ product s (getD b j 0) (power s k) → j < length l → set b j (r ⊕ getD b (j + 1) 0) ≡ filled (takingOut k l) (j + 1) l
@@ -58,64 +43,19 @@ module _ (s : WordSize) where
 
   -- a received word, 0 where marked
 
-  read-is-word : (mark : Bool) (w : ℕ) → (T (not mark) → Word s w) → Word s (cond mark 0 w)
+  pub read-is-word : (mark : Bool) (w : ℕ) → (T (not mark) → Word s w) → Word s (cond mark 0 w)
   read-is-word true w h = pow-pos (bits s)
   read-is-word false w h = h tt
 
-  read-element : (mark : Bool) (w : ℕ) → word s (cond mark 0 w) ≡ cond mark (wordField s .zer) (word s w)
+  pub read-element : (mark : Bool) (w : ℕ) → word s (cond mark 0 w) ≡ cond mark (wordField s .zer) (word s w)
   read-element true w = word-zero s
   read-element false w = refl
-
-  pub read-word : (received marks : List ℕ) (i : ℕ) {w : ℕ} → Readable s received marks
-      → w ≡ cond (marked marks i) 0 (getD received i 0) → Word s w
-  read-word received marks i readable e = rw e (read-is-word (marked marks i) (getD received i 0) (readable i))
-
-  -- the first i received words are absorbed
-  pub record Absorbed (count : ℕ) (received marks : List ℕ) (i : ℕ) (l : List ℕ) : Type 0 where
-    pub words : Words s l
-    pub sums : (j : ℕ) → j < count
-        → entry s l j ≡ horner (wordField s) i (readWord s received marks) (pow (wordField s) (x s) (suc j))
-    pub above : ZeroFrom count l
 
   -- the marked places among the first i are taken out
   pub record TakenOut (count : ℕ) (marks before : List ℕ) (i : ℕ) (l : List ℕ) : Type 0 where
     pub words : Words s l
     pub sequence : (j : ℕ) → entry s l j ≡ erase (wordField s) i (marked marks) (place s (length marks)) (entry s before) j
     pub above : ZeroFrom count l
-
-module _ {s : WordSize} {count : ℕ} {received marks l : List ℕ} where
-  pub absorbed-none : ZeroFrom 0 l → Absorbed s count received marks 0 l
-  unfolding horner
-  absorbed-none zeros = record {
-    words = λ j. rw (zeros j (omega arith)) (pow-pos (bits s));
-    sums = λ j h. ap (word s) (zeros j (omega arith)) ∙ word-zero s;
-    above = λ j h. zeros j (omega arith);
-  }
-
-  pub absorbed-next : {i w : ℕ} {b : List ℕ} → Readable s received marks → Absorbed s count received marks i l
-      → w ≡ cond (marked marks i) 0 (getD received i 0) → b ≡ filled (absorbing s w l) count l
-      → Absorbed s count received marks (i + 1) b
-  absorbed-next {i} {w} readable so-far w-is e =
-      let F = wordField s in
-      let w-word : Word s w = read-word s received marks i readable w-is in
-      let w-read : word s w ≡ readWord s received marks i
-      = ap (word s) w-is ∙ read-element s (marked marks i) (getD received i 0) in
-      subst (Absorbed s count received marks (i + 1)) (sym e) (record {
-        words = filled-words s (absorbing s w l) count l (λ j h. step-word s (j + 1) (so-far .words j) w-word) (so-far .words);
-        sums =
-            λ j h. ap (word s) (getD-filled (absorbing s w l) 0 count j l h)
-            ∙ step-element s (j + 1) (so-far .words j) w-word
-            ∙ ap₂ (F .add) (ap₂ (F .mul) (so-far .sums j h) (ap (pow F (x s)) (add-one j))) w-read
-            ∙ sym (horner-next F i (readWord s received marks) (pow F (x s) (suc j)));
-        above = λ j h. getD-unfilled (absorbing s w l) 0 count j l h ∙ so-far .above j h;
-      })
-
-  pub absorbed-all : Absorbed s count received marks (length received) l → Syndromes s count received marks l
-  absorbed-all all = record {
-    words = all .words;
-    sums = λ j h. all .sums j h ∙ horner-power-sum (wordField s) (x s) (length received) (readWord s received marks) (suc j);
-    above = all .above;
-  }
 
 -- the element at place j, with the locator 2^k taken out
 abbrev takenOutAt : (s : WordSize) → ℕ → List ℕ → ℕ → wordField s .C

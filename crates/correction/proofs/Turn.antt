@@ -52,14 +52,14 @@ module _ (s : WordSize) where
         above = λ j k. word-is-zero s (v .p-words j) (v .locating .P-above j k);
       }
 
-  -- coefficients up to t, and none above, are those of the list
-  alike : {t : ℕ} {P : ℕ → wordField s .C} (l : List ℕ) → ((j : ℕ) → j < t + 1 → entry s l j ≡ P j)
-      → ((j : ℕ) → t < j → P j ≡ wordField s .zer) → ZeroFrom (suc t) l → (j : ℕ) → P j ≡ entry s l j
-  alike {t} {P} l same none above j = by (decLt j (t + 1))
+  -- coefficients below count, and none from there on, are those of the list
+  alike : (count : ℕ) {P : ℕ → wordField s .C} (l : List ℕ) → ((j : ℕ) → j < count → entry s l j ≡ P j)
+      → ((j : ℕ) → count ≤ j → P j ≡ wordField s .zer) → ZeroFrom count l → (j : ℕ) → P j ≡ entry s l j
+  alike count {P} l same none above j = by (decLt j count)
     where
-      by : Dec (j < t + 1) → P j ≡ entry s l j
+      by : Dec (j < count) → P j ≡ entry s l j
       by (yes h) = sym (same j h)
-      by (no h) = none j (omega arith) ∙ sym (ap (word s) (above j (omega arith)) ∙ word-zero s)
+      by (no h) = let past : count ≤ j = omega arith in none j past ∙ sym (ap (word s) (above j past) ∙ word-zero s)
 
   module _ {t : ℕ} {u p q : List ℕ} {L g b d : ℕ} (v : Locating s t u p q L g b)
       (e : d ≡ number s (dot (wordField s) (L + 1) (entry s p) (entry s u) g)) where
@@ -85,43 +85,46 @@ module _ (s : WordSize) where
               (locator.step-annihilates (wordField s) t (entry s u) (v .locating) (discrepancy ∙ ap (word s) z ∙ word-zero s));
         }
 
-    pub turn-kept : (n : ℕ) {p' : List ℕ} → suc (g + n) ≡ L → Kept s b d n (t + 1) p q p' → Locating s t u p' q L (g + 1) b
+    pub turn-kept : (n : ℕ) {p' : List ℕ} → suc (g + n) ≡ L → Kept s b d n (L + 1) p q p' → Locating s t u p' q L (g + 1) b
     turn-kept n {p'} en k =
         let next = locator.step-same-length (wordField s) t (entry s u) (v .locating) n (word s d) en discrepancy in
-        let above : ZeroFrom (suc t) p' = λ j h. k .rest j (omega arith) ∙ v .p-above j h in
+        let above : ZeroFrom (L + 1) p'
+        = λ j h. k .rest j h ∙ word-is-zero s (v .p-words j) (v .locating .P-above j (omega arith)) in
         record {
           p-words = k .words;
           q-words = v .q-words;
-          p-above = above;
+          p-above = λ j h. above j (omega (arith, v .locating .L-le));
           q-above = v .q-above;
           scale-word = v .scale-word;
           locating =
               subst (λ m. locator.Locating (wordField s) t (entry s u) L m (entry s p') (entry s q) (word s b)) (sym (add-one g))
-              (locator.locating-cong (wordField s) t (entry s u)
-              (alike p' (k .sums) (λ j h. next .P-above j (omega (arith, v .locating .L-le))) above) (λ j. refl) next);
+              (locator.locating-cong (wordField s) t (entry s u) (alike (L + 1) p' (k .sums) (λ j h. next .P-above j (omega arith)) above)
+              (λ j. refl) next);
         }
 
-    pub turn-lengthened : (n : ℕ) {p' q' : List ℕ} → L + n ≡ suc g → g < t → d ≢ 0 → Lengthened s b d n (t + 1) p q p' q'
+    pub turn-lengthened : (n : ℕ) {p' q' : List ℕ} → L + n ≡ suc g → g < t → d ≢ 0 → Lengthened s b d n (g + 2) p q p' q'
         → Locating s t u p' q' (g + 1) L d
     turn-lengthened n {p'} {q'} en gt ne k =
         let next =
         locator.step-longer (wordField s) t (entry s u) (v .locating) n (word s d) en gt
         (λ z. ne (word-is-zero s discrepancy-word z)) discrepancy in
-        let above : ZeroFrom (suc t) p' = λ j h. k .rest j (omega arith) ∙ v .p-above j h in
-        let q-above : ZeroFrom (suc t) q' = λ j h. k .q-rest j (omega arith) ∙ v .q-above j h in
+        let above : ZeroFrom (g + 2) p'
+        = λ j h. k .rest j h ∙ word-is-zero s (v .p-words j) (v .locating .P-above j (omega arith)) in
+        let q-above : ZeroFrom (g + 2) q'
+        = λ j h. k .q-rest j h ∙ word-is-zero s (v .q-words j) (v .locating .Q-above j (omega arith)) in
         record {
           p-words = k .words;
-          q-words = λ j. q-word j k (decLt j (t + 1));
-          p-above = above;
-          q-above = q-above;
+          q-words = λ j. q-word j k (decLt j (g + 2));
+          p-above = λ j h. above j (omega arith);
+          q-above = λ j h. q-above j (omega arith);
           scale-word = discrepancy-word;
           locating =
               subst (λ m. locator.Locating (wordField s) t (entry s u) m L (entry s p') (entry s q') (word s d)) (sym (add-one g))
               (locator.locating-cong (wordField s) t (entry s u)
-              (alike p' (k .sums) (λ j h. next .P-above j (omega arith)) above)
-              (alike q' (λ j h. ap (word s) (k .moved j h)) (λ j h. v .locating .P-above j (omega (arith, v .locating .L-le))) q-above) next);
+              (alike (g + 2) p' (k .sums) (λ j h. next .P-above j (omega arith)) above)
+              (alike (g + 2) q' (λ j h. ap (word s) (k .moved j h)) (λ j h. v .locating .P-above j (omega arith)) q-above) next);
         }
       where
-        q-word : (j : ℕ) → Lengthened s b d n (t + 1) p q p' q' → Dec (j < t + 1) → Word s (getD q' j 0)
+        q-word : (j : ℕ) → Lengthened s b d n (g + 2) p q p' q' → Dec (j < g + 2) → Word s (getD q' j 0)
         q-word j k (yes h) = subst (Word s) (sym (k .moved j h)) (v .p-words j)
         q-word j k (no h) = subst (Word s) (sym (k .q-rest j (omega arith))) (v .q-words j)

@@ -6,11 +6,7 @@ use Prim.Native.Nat.{ℕ}
 use lib.Dec.{eqb}
 use lib.ListN.{length, getD}
 use Rattle.list_laws.specs.Range.{count}
-use Rattle.finite_field.specs.Field.{WordSize, Word}
-
--- every entry is a word of the size
-abbrev pub Words : WordSize → List ℕ → Type 0
-Words s l = (i : ℕ) → Word s (getD l i 0)
+pub use Rattle.evaluation.specs.Words.{Words}
 
 -- word i is marked unread
 abbrev pub marked : List ℕ → ℕ → Bool

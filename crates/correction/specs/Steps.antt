@@ -4,7 +4,7 @@
 use mathlib.Core.Path.{_≡_}
 use mathlib.Core.Bool.{Bool, cond, not}
 use mathlib.Core.List.{List}
-use Prim.Native.Nat.{ℕ, suc, _^_, _≤_, _<_}
+use Prim.Native.Nat.{ℕ, suc, _+_, _-_, _^_, _≤_, _<_}
 use lib.Dec.{T}
 use lib.ListN.{length, getD}
 use Rattle.algebra.specs.Sums.{pow}
@@ -19,21 +19,22 @@ use Rattle.list_laws.specs.Range.{one}
 use Rattle.finite_field.specs.Xor.{_⊕_}
 use Rattle.finite_field.specs.Field.{WordSize, bits, Word}
 use Rattle.finite_field.specs.Instance.{wordField, word, entry, x}
-use Rattle.correction.specs.Received.{Words}
-use Rattle.correction.specs.Received.{marked}
-
--- words from place n on are 0
-abbrev pub ZeroFrom : ℕ → List ℕ → Type 0
-ZeroFrom n l = (j : ℕ) → n ≤ j → getD l j 0 ≡ 0
-
--- from place n on two lists are alike
-abbrev pub SameFrom : ℕ → List ℕ → List ℕ → Type 0
-SameFrom n l m = (j : ℕ) → n ≤ j → getD m j 0 ≡ getD l j 0
+pub use Rattle.evaluation.specs.Words.{ZeroFrom, SameFrom}
+use Rattle.evaluation.specs.Evaluation.{valueAt}
+use Rattle.correction.specs.Received.{Words, marked}
 
 -- a work slice as it comes: longer than a block of n words, and zeros
 pub record Blank (n : ℕ) (l : List ℕ) : Type 0 where
   pub longer : n < length l
   pub zeros : ZeroFrom 0 l
+
+-- the coefficient of 2^k: the last word is that of 2^0, and a marked word counts as 0
+abbrev pub coefficient : List ℕ → List ℕ → ℕ → ℕ
+coefficient received marks k = cond (marked marks (length received - 1 - k)) 0 (getD received (length received - 1 - k) 0)
+
+-- l begins with the block's coefficients
+abbrev pub Coefficients : List ℕ → List ℕ → List ℕ → Type 0
+Coefficients received marks l = (k : ℕ) → k < length received → getD l k 0 ≡ coefficient received marks k
 
 module _ (s : WordSize) where
   -- what is not marked is a word
@@ -60,7 +61,7 @@ module _ (s : WordSize) where
   abbrev pub SyndromesOf : ℕ → ℕ → (ℕ → wordField s .C) → List ℕ → Type 0
   SyndromesOf check n y l = (j : ℕ) → j < check → entry s l j ≡ powerSum (wordField s) n (place n) y (suc j)
 
-  -- what syndromes leaves
+  -- the syndromes of a received block, zeros after them
   pub record Syndromes (check : ℕ) (received marks after : List ℕ) : Type 0 where
     pub words : Words s after
     pub sums : SyndromesOf check (length received) (readWord received marks) after
@@ -106,6 +107,11 @@ module _ (s : WordSize) where
     pub locates : locator.Located (wordField s) t (entry s u) (entry s p)
     pub length-le : length ≤ t
     pub above : ZeroFrom (suc length) p
+
+  -- v has the values of the locator p, of this degree, at 2^0 to 2^(n - 1)
+  pub record LocatorValues (degree : ℕ) (p : List ℕ) (n : ℕ) (v : List ℕ) : Type 0 where
+    pub words : Words s v
+    pub values : (j : ℕ) → j < n → entry s v j ≡ valueAt s (degree + 1) p j
 
   -- what times_root leaves: (x + 2^k) · g, of degree m + 1
   pub record Rooted (k m : ℕ) (g after : List ℕ) : Type 0 where

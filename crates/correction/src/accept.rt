@@ -1,6 +1,6 @@
 // Whether a candidate is near: its checks, by its corrections alone, and 2r + e against the limit.
 ghost use mathlib.Core.Path.{_≡_};
-ghost use mathlib.Core.Bool.{Bool, true, false, not, _&&_};
+ghost use mathlib.Core.Bool.{true, false, not, _&&_};
 ghost use Prim.Native.Nat.{ℕ, _≤_, _<_, _^_};
 ghost use lib.Dec.{eqb};
 ghost use lib.ListN.{length, getD};
@@ -11,8 +11,9 @@ ghost use Rattle.finite_field.specs.Instance.{wordField};
 ghost use Rattle.correction.specs.Received.{Words};
 ghost use Rattle.correction.specs.Received.{marked, unread};
 ghost use Rattle.correction.specs.Steps as steps;
+use evaluation::exponents;
 
-// The correction at the locator 2^k goes into each syndrome: s_j ← s_j + correction · 2^(k(j+1)).
+// The correction at the locator 2^k, which is not 0, goes into each syndrome: s_j ← s_j + correction · 2^(k(j+1)).
 fn settle(
     size: u32,
     powers: &[u16],
@@ -23,16 +24,11 @@ fn settle(
     s: &mut [u16],
 )
     requires { ⌜ Tables (sizeOf size) (now powers) (now logs) ⌝ ∗ ⌜ Word (sizeOf size) correction ⌝ ∗ ⌜ Words (sizeOf size) (now s) ⌝ }
-    requires { ⌜ k < 2 ^ bits (sizeOf size) ⌝ ∗ ⌜ count ≤ length (now s) ⌝ }
+    requires { ⌜ k < 2 ^ bits (sizeOf size) ⌝ ∗ ⌜ count ≤ length (now s) ⌝ ∗ ⌜ 0 < correction ⌝ }
     ensures { λ _. ⌜ steps.Settled (sizeOf size) correction k count (now (s .entry)) (now (s .exit)) ⌝ }
 {
-    let mut term = correction;
-    let mut j = 0;
-    while j < count {
-        term = field::times_power(size, powers, logs, term, k);
-        s[j] = s[j] ^ term;
-        j += 1;
-    }
+    let start = exponents::exponent(size, powers, logs, correction, k);
+    exponents::add_powers(size, powers, logs, start, k, count, s);
 }
 
 // All n corrections go into the syndromes of the received block: what is left are those of the candidate.
@@ -52,14 +48,14 @@ fn settle_all(
 {
     let mut i = 0;
     while i < n {
-        if corrections[i] != 0 {
+        if 0 < corrections[i] {
             settle(size, powers, logs, corrections[i], n - 1 - i, count, s);
         }
         i += 1;
     }
 }
 
-fn all_zero(words: &[u16], count: usize) -> bool
+pub fn all_zero(words: &[u16], count: usize) -> bool
     requires { ⌜ count ≤ length (now words) ⌝ }
     ensures { λ r. ⌜ r ≡ range.all count (λ (j : ℕ). eqb (getD (now (words .entry)) j 0) 0) ⌝ }
 {

@@ -1,6 +1,6 @@
-// The steps of the corrector, each with its equation in algebra's terms as its contract: syndromes, the marked places out, the locator,
+// The steps of the corrector, each with its equation in algebra's terms as its contract: the marked places out of the syndromes, the locator,
 // the places and values of the corrections, and the last check.
 pub mod accept;
+pub mod erasures;
 pub mod locator;
-pub mod syndromes;
 pub mod values;

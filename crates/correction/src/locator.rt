@@ -134,7 +134,7 @@ fn step(
             scale,
             d,
             length - 1 - place,
-            t + 1,
+            length + 1,
             p,
             q,
         );
@@ -151,7 +151,7 @@ fn step(
         scale,
         d,
         place + 1 - length,
-        t + 1,
+        place + 2,
         p,
         q,
     );
@@ -174,7 +174,7 @@ pub fn locate(
 ) -> usize
     requires { ⌜ Tables (sizeOf size) (now powers) (now logs) ⌝ ∗ ⌜ Words (sizeOf size) (now u) ⌝ ∗ ⌜ t + t ≤ length (now u) ⌝ }
     requires { ⌜ t < length (now p) ⌝ ∗ ⌜ t < length (now q) ⌝ ∗ ⌜ steps.ZeroFrom 0 (now p) ⌝ ∗ ⌜ steps.ZeroFrom 0 (now q) ⌝ }
-    ensures { λ r. ⌜ steps.Located (sizeOf size) t (now (u .entry)) r (now (p .exit)) ⌝ }
+    ensures { λ r. ⌜ steps.Located (sizeOf size) t (now (u .entry)) r (now (p .exit)) ⌝ ∗ ⌜ Words (sizeOf size) (now (q .exit)) ⌝ }
 {
     p[0] = 1;
     let mut state = Locating {

@@ -1,34 +1,14 @@
 // The places that may be wrong, and the values that are missing there.
 ghost use mathlib.Core.Path.{_≡_};
-ghost use mathlib.Core.Bool.{Bool, _||_};
 ghost use Prim.Native.Nat.{ℕ, _+_, _≤_, _<_, _^_};
 ghost use lib.ListN.{length, getD};
-ghost use Rattle.algebra.specs.Field.{isZero};
 ghost use Rattle.algebra.specs.Sums.{pow};
-ghost use Rattle.algebra.specs.KeyEquation as key;
 ghost use Rattle.algebra.specs.Exactness as exactness;
-ghost use Rattle.finite_field.specs.Field.{sizeOf, bits, Word};
+ghost use Rattle.finite_field.specs.Field.{sizeOf, bits};
 ghost use Rattle.finite_field.specs.Tables.{Tables};
 ghost use Rattle.finite_field.specs.Instance.{wordField, entry, number, x};
 ghost use Rattle.correction.specs.Received.{Words};
 ghost use Rattle.correction.specs.Steps as steps;
-
-// The polynomial p of count coefficients at 2^k, from its highest coefficient down.
-fn eval(size: u32, powers: &[u16], logs: &[u16], p: &[u16], count: usize, k: usize) -> u16
-    requires { ⌜ Tables (sizeOf size) (now powers) (now logs) ⌝ ∗ ⌜ Words (sizeOf size) (now p) ⌝ }
-    requires { ⌜ count ≤ length (now p) ⌝ ∗ ⌜ k < 2 ^ bits (sizeOf size) ⌝ }
-    ensures { λ r. ⌜ r ≡ number (sizeOf size)
-        (key.eval (wordField (sizeOf size)) count (entry (sizeOf size) (now (p .entry)))
-        (pow (wordField (sizeOf size)) (x (sizeOf size)) k)) ⌝ }
-{
-    let mut value: u16 = 0;
-    let mut j = count;
-    while 0 < j {
-        j -= 1;
-        value = field::times_power(size, powers, logs, value, k) ^ p[j];
-    }
-    value
-}
 
 // g ← (x + 2^k) · g, where g has degree m.
 fn times_root(size: u32, powers: &[u16], logs: &[u16], k: usize, m: usize, g: &mut [u16])
@@ -44,40 +24,36 @@ fn times_root(size: u32, powers: &[u16], logs: &[u16], k: usize, m: usize, g: &m
     g[0] = field::times_power(size, powers, logs, g[0], k);
 }
 
-// Whether word i may be wrong: it is marked, or the locator p of this degree vanishes at its locator.
-fn is_taken(
-    size: u32,
-    powers: &[u16],
-    logs: &[u16],
-    p: &[u16],
-    degree: usize,
-    marks: &[u8],
-    i: usize,
-) -> bool
-    requires { ⌜ Tables (sizeOf size) (now powers) (now logs) ⌝ ∗ ⌜ Words (sizeOf size) (now p) ⌝ }
-    requires { ⌜ degree < length (now p) ⌝ ∗ ⌜ i < length (now marks) ⌝ ∗ ⌜ length (now marks) ≤ 2 ^ bits (sizeOf size) ⌝ }
+// Whether word i may be wrong: it is marked, or the locator vanishes at its locator. v has the values of the locator p, of this degree;
+// p and degree are for the contract alone.
+fn is_taken(size: u32, p: &[u16], degree: usize, v: &[u16], marks: &[u8], i: usize) -> bool
+    requires { ⌜ steps.LocatorValues (sizeOf size) degree (now p) (length (now marks)) (now v) ⌝
+        ∗ ⌜ length (now marks) ≤ length (now v) ⌝ ∗ ⌜ i < length (now marks) ⌝ }
     ensures { λ r. ⌜ r ≡ steps.takenAt (sizeOf size) degree (now (p .entry)) (now (marks .entry)) i ⌝ }
 {
     if marks[i] == 1 {
         return true;
     }
-    eval(size, powers, logs, p, degree + 1, marks.len() - 1 - i) == 0
+    let k = marks.len() - 1 - i;
+    v[k] == 0
 }
 
 // Notes the taken places (1) in `places`, makes g the polynomial that vanishes at them, and answers how many there are. Both come as
-// zeros.
+// zeros; v has the values of the locator p.
 pub fn gather(
     size: u32,
     powers: &[u16],
     logs: &[u16],
     p: &[u16],
     degree: usize,
+    v: &[u16],
     marks: &[u8],
     places: &mut [u16],
     g: &mut [u16],
 ) -> usize
-    requires { ⌜ Tables (sizeOf size) (now powers) (now logs) ⌝ ∗ ⌜ Words (sizeOf size) (now p) ⌝ }
-    requires { ⌜ degree < length (now p) ⌝ ∗ ⌜ length (now marks) ≤ 2 ^ bits (sizeOf size) ⌝
+    requires { ⌜ Tables (sizeOf size) (now powers) (now logs) ⌝
+        ∗ ⌜ steps.LocatorValues (sizeOf size) degree (now p) (length (now marks)) (now v) ⌝ }
+    requires { ⌜ length (now marks) ≤ length (now v) ⌝ ∗ ⌜ length (now marks) ≤ 2 ^ bits (sizeOf size) ⌝
         ∗ ⌜ length (now marks) ≤ length (now places) ⌝ }
     requires { ⌜ length (now marks) < length (now g) ⌝ ∗ ⌜ steps.ZeroFrom 0 (now places) ⌝ ∗ ⌜ steps.ZeroFrom 0 (now g) ⌝ }
     ensures { λ r. ⌜ steps.Gathered (sizeOf size) degree (now (p .entry)) (now (marks .entry)) r (now (places .exit)) (now (g .exit)) ⌝ }
@@ -86,7 +62,7 @@ pub fn gather(
     let mut m = 0;
     let mut i = 0;
     while i < marks.len() {
-        if is_taken(size, powers, logs, p, degree, marks, i) {
+        if is_taken(size, p, degree, v, marks, i) {
             times_root(size, powers, logs, marks.len() - 1 - i, m, g);
             places[i] = 1;
             m += 1;

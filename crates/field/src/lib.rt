@@ -4,11 +4,21 @@ ghost use mathlib.Core.Path.{_≡_};
 ghost use Prim.Native.Nat.{_<_, _^_};
 ghost use Rattle.finite_field.specs.Field.{sizeOf, bits, Word, product, power, inverse};
 ghost use Rattle.finite_field.specs.Tables.{Tables};
+ghost use Rattle.field.specs.Turned as turning;
 
 pub fn wide(x: u16) -> usize
     ensures { λ r. ⌜ r ≡ x ⌝ }
 {
     x as usize
+}
+
+// The exponent e + k, turned over at the order of x, where there are `words` words. There is no branch on the sum.
+pub fn turned(size: u32, words: usize, e: usize, k: usize) -> usize
+    requires { ⌜ words ≡ 2 ^ bits (sizeOf size) ⌝ ∗ ⌜ e < words ⌝ ∗ ⌜ k < words ⌝ }
+    ensures { λ r. ⌜ r ≡ turning.turned (sizeOf size) e k ⌝ }
+{
+    let sum = e + k;
+    (sum & (words - 1)) + (words <= sum) as usize
 }
 
 // a · 2^k: the exponents add up, and turn over at the order of x.
@@ -19,14 +29,9 @@ pub fn times_power(size: u32, powers: &[u16], logs: &[u16], a: u16, k: usize) ->
     if a == 0 {
         return 0;
     }
-    let order = powers.len() - 1;
     let i = a as usize;
-    let exponent = wide(logs[i]) + k;
-    if exponent < order {
-        powers[exponent]
-    } else {
-        powers[exponent - order]
-    }
+    let e = wide(logs[i]);
+    powers[turned(size, powers.len(), e, k)]
 }
 
 // a · b.

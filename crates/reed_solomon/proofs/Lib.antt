@@ -1,3 +1,3 @@
-pub mod Proposing
-pub mod Solving
+pub mod Reading
+pub mod Clean
 pub mod Judging

@@ -1,2 +1,2 @@
 pub mod Correct
-pub mod Work
+pub mod BlockRead

@@ -9,7 +9,7 @@ use lib.ListN.{length, length-set}
 use Rattle.list_laws.specs.Filled.{filled, filled-none, filled-step, filled-all}
 use Rattle.finite_field.specs.Xor.{_⊕_}
 use Rattle.finite_field.specs.Field.{sizeOf}
-use Rattle.correction.proofs.Sequences.{not-yet-filled}
+use Rattle.evaluation.proofs.Elements.{not-yet-filled}
 use Rattle.check_words.proofs.Remaindering.{adding}
 use Rattle.check_words.proofs.add_multiple.Statement.{statement}
 use Rattle.check_words.proofs.add_multiple.Tie as tie

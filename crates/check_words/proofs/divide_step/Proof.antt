@@ -8,7 +8,7 @@ use Rattle.finite_field.specs.Field.{sizeOf, Word}
 use Rattle.finite_field.specs.FieldLaws.{most-words}
 use Rattle.block_code.specs.CheckWords.{factor}
 use Rattle.field.proofs.ByTables.{log-word, power-of-log}
-use Rattle.correction.proofs.Elements.{xor-word}
+use Rattle.evaluation.proofs.Elements.{xor-word}
 use Rattle.check_words.proofs.Remaindering.{step-of-zero, step-of-power}
 use Rattle.check_words.proofs.divide_step.Statement.{statement}
 use Rattle.check_words.proofs.divide_step.Tie as tie

@@ -6,7 +6,7 @@ use Prim.Native.Nat.{_+_, _-_, _≤_, _<_}
 use native.Mathlib.Omega.{arith}
 use lib.ListN.{length, length-set}
 use Rattle.list_laws.specs.Filled.{filled, filled-none, filled-step}
-use Rattle.correction.proofs.Sequences.{not-yet-filled}
+use Rattle.evaluation.proofs.Elements.{not-yet-filled}
 use Rattle.check_words.proofs.Remaindering.{moving, moved-last}
 use Rattle.check_words.proofs.move_up.Statement.{statement}
 use Rattle.check_words.proofs.move_up.Tie as tie

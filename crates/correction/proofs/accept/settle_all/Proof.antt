@@ -41,7 +41,7 @@ settle-requires : tie.Need-settle-requires Inv-loop μ-loop
 settle-requires c κs =
     let l = c .before .before .before .before .before in
     let pre = l .before .before .before .before .before .pre in
-    (pre .0, (pre .1 .0 (l .loop .i), (l .loop .inv .1 .words, (omega arith, omega arith))))
+    (pre .0, (pre .1 .0 (l .loop .i), (l .loop .inv .1 .words, (omega arith, (omega arith, c .before .before .if1 .taken)))))
 
 add-i : tie.Need-add-i Inv-loop μ-loop
 add-i c = search needs
@@ -55,7 +55,7 @@ loop-again c =
       search needs,
       ⊎-elim
           (λ w. rw (w .6) (settling-all-next _ _ _ _ _ (l .loop .inv .1) (w .3 .ensures) (w .3 .kept .1 .1 .1 .1 .1 .1 .0)))
-          (λ w. rw (w .1) (settling-all-same _ _ _ _ _ (l .loop .inv .1) (w .0 .left)))
+          (λ w. rw (w .1) (settling-all-same _ _ _ _ _ (l .loop .inv .1) (omega (arith, w .0 .left))))
           (c .if1 .came),
     )
 

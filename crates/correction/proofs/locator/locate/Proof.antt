@@ -61,7 +61,8 @@ same-length-2 c = search needs
 returns : tie.Need-returns Inv-loop μ-loop
 returns c =
     let s = c .before .before .before .before .before .before .before .before in
-    finished (sizeOf (s .args .size)) (c .before .before .loop .inv .1 .1) (omega arith)
+    let all = c .before .before .loop .inv .1 .1 in
+    (finished (sizeOf (s .args .size)) all (omega arith), all .q-words)
 
 pub locate-spec : {M : Type 1} → statement M
 locate-spec =

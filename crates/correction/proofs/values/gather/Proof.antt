@@ -14,21 +14,21 @@ use Rattle.correction.proofs.values.gather.Statement.{statement}
 use Rattle.correction.proofs.values.gather.Tie as tie
 
 abbrev Inv-loop : tie.InvT-loop
-Inv-loop size powers logs p degree marks places₀ g₀ m₀ i₀ places g m i =
+Inv-loop size powers logs p degree v marks places₀ g₀ m₀ i₀ places g m i =
     (i ≤ length marks)
     × (length places ≡ length places₀)
     × (length g ≡ length g₀)
     × Gathering (sizeOf size) degree p marks i m places g
 
 abbrev μ-loop : tie.MeasureT-loop
-μ-loop size powers logs p degree marks places₀ g₀ m₀ i₀ places g m i = length marks - i
+μ-loop size powers logs p degree v marks places₀ g₀ m₀ i₀ places g m i = length marks - i
 
 slice-write-g : tie.Need-slice-write-g Inv-loop μ-loop
 slice-write-g c = search needs
 
 loop-holds : tie.Need-loop-holds Inv-loop μ-loop
 loop-holds c =
-    let start = c .before .before .before .before .before .before in
+    let start = c .before .before .before .before .before .before .before in
     let a = start .args in (
       search needs,
       refl,
@@ -48,7 +48,7 @@ sub-times-root-2 c = search needs
 
 times-root-requires : tie.Need-times-root-requires Inv-loop μ-loop
 times-root-requires c κs =
-    let start = c .before .before .before .before .before .before .before .before .before .before .before in
+    let start = c .before .before .before .before .before .before .before .before .before .before .before .before in
     let a = start .args in
     let l = c .before .before .before .before .loop in
     let few = degree-le (sizeOf (a .size)) (a .degree) (a .p .now) (a .marks .now) (l .inv .3) in (
@@ -64,7 +64,7 @@ slice-write-places c = search needs
 
 add-m : tie.Need-add-m Inv-loop μ-loop
 add-m c =
-    let a = c .before .before .before .before .before .before .before .before .before .before .before .before .before .before .args in
+    let a = c .before .before .before .before .before .before .before .before .before .before .before .before .before .before .before .args in
     omega (arith, degree-le (sizeOf (a .size)) (a .degree) (a .p .now) (a .marks .now) (c .before .before .before .before .before .before .before .loop .inv .3))
 
 add-i : tie.Need-add-i Inv-loop μ-loop
@@ -75,7 +75,7 @@ loop-less c = search needs
 
 loop-again : tie.Need-loop-again Inv-loop μ-loop
 loop-again c =
-    let a = c .before .before .before .before .before .before .before .before .before .before .args in
+    let a = c .before .before .before .before .before .before .before .before .before .before .before .args in
     let l = c .before .before .before .loop in
     let size = sizeOf (a .size) in
     ⊎-elim
@@ -97,11 +97,11 @@ same-length : tie.Need-same-length Inv-loop μ-loop
 same-length c = search needs
 
 same-length-2 : tie.Need-same-length-2 Inv-loop μ-loop
-same-length-2 c = c .before .loop .inv .2 ∙ length-set (c .before .before .before .before .before .before .before .before .args .g .now) 0 1
+same-length-2 c = c .before .loop .inv .2 ∙ length-set (c .before .before .before .before .before .before .before .before .before .args .g .now) 0 1
 
 returns : tie.Need-returns Inv-loop μ-loop
 returns c =
-    let a = c .before .before .before .before .before .before .before .before .args in
+    let a = c .before .before .before .before .before .before .before .before .before .args in
     gathering-all (sizeOf (a .size)) (a .degree) (a .p .now) (a .marks .now) (c .before .loop .inv .3) (search needs)
 
 pub gather-spec : {M : Type 1} → statement M
