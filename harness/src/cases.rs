@@ -8,6 +8,7 @@ pub mod grids;
 pub mod kinds;
 pub mod large;
 pub mod named;
+pub mod parts;
 pub mod records;
 pub mod refused;
 pub mod sheet;
@@ -72,6 +73,7 @@ pub fn all(seed: u64, count: usize, take: &mut dyn FnMut(Case)) {
     small::all(take);
     unlawful::all(&mut Random::new(seed ^ 1), take);
     drawn(seed, count, take);
+    parts::all(&mut Random::new(seed ^ 3), take);
     large::all(&mut Random::new(seed ^ 2), take);
 }
 

@@ -19,6 +19,9 @@ is-turned : (c : tie.Start)
     ≡ turning.turned (sizeOf (c .args .size)) (c .args .e) (c .args .k)
 is-turned c = masked-sum (sizeOf (c .args .size)) (c .pre .0) (c .pre .1 .0) (c .pre .1 .1)
 
+returns : tie.Need-returns
+returns c = is-turned c
+
 add-sum : tie.Need-add-sum
 add-sum c = omega (arith, most-words (sizeOf (c .args .size)))
 
@@ -32,9 +35,6 @@ add-result : tie.Need-add-result
 add-result c =
     let size = sizeOf (c .args .size) in
     omega (arith, is-turned c, turning.turned-lt size {e = c .args .e} {k = c .args .k} (omega arith) (omega arith), most-words size)
-
-returns : tie.Need-returns
-returns c = is-turned c
 
 pub turned-spec : {M : Type 1} → statement M
 turned-spec = tie.close (tie.spec add-sum sub-result cast-result add-result returns)
