@@ -3,7 +3,7 @@
 
 callgrind (Debian: valgrind) counts the instructions of aztec_decode on a symbol of `harness draw-timed`: F32-50-wrong, or the one named.
 The compiler puts most functions into few, so a table by function says little; a second one lists stretches of code that ran about equally
-often. How often tells a loop apart: n·K times for the syndromes, n times the locator's length for the roots.
+often. How often tells a loop apart: at 12 bits 13·K times for the last step of the syndromes, 13·n for that of the roots.
 """
 import collections
 import re

@@ -127,7 +127,10 @@ module _ (F : Field) where
         let c = j % (m * per) in
         let q = j / (m * per) in
         sym (pow-turn α (m * per * p) q (c * p) order)
-        ∙ ap (pow F α) (ap (λ i. i + c * p) (sym (mul-assoc q (m * per) p)) ∙ sym (add-mul (q * (m * per)) c p) ∙ ap (λ i. i * p) (div-add-mod' j (m * per)))
+        ∙ ap (pow F α)
+        (ap (λ i. i + c * p) (sym (mul-assoc q (m * per) p))
+        ∙ sym (add-mul (q * (m * per)) c p)
+        ∙ ap (λ i. i * p) (div-add-mod' j (m * per)))
         ∙ pow-mul F α j p
 
     -- coefficient r of the class of j, at its power
@@ -163,4 +166,6 @@ module _ (F : Field) where
     fold-narrow c r h k l =
         made c r h l
         ∙ sum-zero F chunks _
-        (λ i n. ⊗-left-zero F _ (narrow (c % m) (i * p + r) (mod-lt c pos) (omega arith) (digits-lt (let q : i < per = omega arith in q) l)))
+        (λ i n.
+        let below : i < per = omega arith in
+        ⊗-left-zero F _ (narrow (c % m) (i * p + r) (mod-lt c pos) (omega arith) (digits-lt below l)))

@@ -45,7 +45,8 @@ fn add_chunk(
     requires { ⌜ Tables (sizeOf size) (now powers) (now logs) ⌝ ∗ ⌜ Words (sizeOf size) (now to) ⌝ ∗ ⌜ e < 2 ^ bits (sizeOf size) ⌝ }
     requires { ⌜ at + count ≤ length (now from) ⌝ ∗ ⌜ into + count ≤ length (now to) ⌝ }
     ensures { λ _. ⌜ steps.Placed
-        (λ (r : ℕ). product (sizeOf size) (getD (now (to .entry)) (into + r) 0) (power (sizeOf size) e) ⊕ getD (now (from .entry)) (at + r) 0)
+        (λ (r : ℕ). product (sizeOf size) (getD (now (to .entry)) (into + r) 0) (power (sizeOf size) e)
+        ⊕ getD (now (from .entry)) (at + r) 0)
         into count (now (to .entry)) (now (to .exit)) ⌝ }
 {
     let mut r = 0;
@@ -128,7 +129,8 @@ pub fn fold(
     requires { ⌜ Tables (sizeOf size) (now powers) (now logs) ⌝ ∗ ⌜ Words (sizeOf size) (now from) ⌝ ∗ ⌜ Words (sizeOf size) (now to) ⌝ }
     requires { ⌜ steps.Divided (sizeOf size) (folding .classes) (folding .per) (folding .part) ⌝ ∗ ⌜ n < 65536 ⌝
         ∗ ⌜ 2 ^ bits (sizeOf size) ≤ length (now from) ⌝ ∗ ⌜ 2 ^ bits (sizeOf size) ≤ length (now to) ⌝ }
-    ensures { λ _. ⌜ steps.Refolded (sizeOf size) (folding .classes) (folding .per) (folding .part) n (now (from .entry)) (now (to .exit)) ⌝ }
+    ensures { λ _. ⌜ steps.Refolded (sizeOf size) (folding .classes) (folding .per) (folding .part) n
+        (now (from .entry)) (now (to .exit)) ⌝ }
 {
     let m = folding.classes;
     let per = folding.per;

@@ -238,8 +238,8 @@ fn repair_large(
     )
 }
 
-// Whether a block is near, and that block in `corrected`. The syndromes are used up. The work arrays are made here and not before, since most
-// blocks need none.
+// Whether a block is near, and that block in `corrected`. The syndromes are used up. The work arrays are made here and not before, since
+// most blocks need none.
 pub fn repair(
     size: u32,
     powers: &[u16],
