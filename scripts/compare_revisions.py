@@ -3,10 +3,10 @@
 
 Builds the archive of REV in target/compare, puts `before_` in front of its names, links it beside this tree's into one harness, and has
 the two take turns on the same inputs. Prints tables for a Markdown document: the fastest and the slowest of eleven runs of each, the ratio
-of the fastest, and the median of the turns' ratios; beside libfec's times where that is there (Debian: libfec-dev). An answer that isn't
-the other's, or isn't as due, is printed and ends the script with 1. REV's archive is kept for the next time. What REV has like this tree
-isn't proved again where target/ has it; the rest takes its time. REV is older than this tree, or has the same interface: the harness calls
-both by this tree's.
+of the fastest, and the median of the turns' ratios; beside libfec's times where that is there (Debian: libfec-dev). The reader has a table
+of grids that it reads and one of grids that it refuses. An answer that isn't the other's, or isn't as due, is printed and ends the script
+with 1. REV's archive is kept for the next time. What REV has like this tree isn't proved again where target/ has it; the rest takes its
+time. REV is older than this tree, or has the same interface: the harness calls both by this tree's.
 """
 import os
 import pathlib

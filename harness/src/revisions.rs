@@ -5,6 +5,7 @@
 //! names, and runs `harness bench-revisions`.
 
 mod blocks;
+mod refused;
 mod symbols;
 mod table;
 mod turns;
@@ -84,6 +85,7 @@ fn compared(both: &Both) -> ExitCode {
     let mut table = Table::default();
     blocks::all(both, &mut table);
     symbols::read(both, &mut table);
+    symbols::refused(both, &mut table);
     symbols::made(both, &mut table);
     ExitCode::from(u8::from(!table.ended()))
 }

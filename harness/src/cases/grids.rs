@@ -3,7 +3,7 @@
 mod arguments;
 mod edges;
 mod garbage;
-mod items;
+pub mod items;
 pub mod limits;
 mod made;
 mod orientations;

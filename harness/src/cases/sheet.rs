@@ -10,6 +10,7 @@ use crate::symbol::position::{moved, placed};
 use crate::symbol::shape::Shape;
 use crate::symbol::{bits_of, block, block_bits, mode_sizes, mode_words, places};
 
+#[derive(Clone)]
 pub struct Sheet {
     pub shape: Shape,
     pub position: usize,

@@ -30,10 +30,14 @@ pub fn all() -> Vec<Timed> {
     let mut list = vec![clean(b"POT")];
     let full = [4, 8, 16, 24, 32].map(Shape::full);
     let shapes = [Shape::compact(4)].into_iter().chain(full);
-    let text = mixed(AMPLE);
-    list.extend(shapes.map(|shape| clean(longest(&text, PERCENT, shape.number()))));
-    list.push(spoilt(clean(longest(&text, PERCENT, 36))));
+    list.extend(shapes.map(filled));
+    list.push(spoilt(filled(Shape::full(32))));
     list
+}
+
+/// A shape's clean symbol, as full of mixed text as the percentage allows.
+pub fn filled(shape: Shape) -> Timed {
+    clean(longest(&mixed(AMPLE), PERCENT, shape.number()))
 }
 
 /// The longest beginning that a shape up to `number` takes; longer ones take no fewer words.

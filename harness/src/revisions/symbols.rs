@@ -1,11 +1,12 @@
 //! The reader's grids and the maker's messages.
 
+use super::refused::{self, Refused};
 use super::table::{Table, Unit};
 use super::turns::{Answer, Both, Job};
 use super::Library;
 use crate::cases::kinds::mixed;
 use crate::cases::timed::{self, longest, Timed, PERCENT};
-use crate::decode::calls::{decoded, Decoded};
+use crate::decode::calls::{decoded, refusal, Decoded};
 use crate::decode::compare::AMPLE;
 use crate::encode::calls::{encoded, Due, Encoded};
 use crate::guard::untouched_bytes;
@@ -16,13 +17,17 @@ use std::hint::black_box;
 pub fn read(both: &Both, table: &mut Table) {
     table.begin("Reader", false);
     for case in timed::all() {
-        let mut job = Reading {
-            case: &case,
-            message: vec![0; AMPLE],
-            answer: Decoded::default(),
-        };
-        let outcome = both.timed(&mut job, |_| None);
+        let outcome = both.timed(&mut Reading::answered(&case), |_| None);
         table.row(&case.name, Unit::MICRO, &outcome);
+    }
+}
+
+/// Grids that come back with each of the reader's numbers.
+pub fn refused(both: &Both, table: &mut Table) {
+    table.begin("Reader, refused", false);
+    for case in refused::all() {
+        let outcome = both.timed(&mut Reading::refused(&case), |_| None);
+        table.row(&case.title, Unit::of(&outcome), &outcome);
     }
 }
 
@@ -50,21 +55,58 @@ fn widened(bytes: &[u8]) -> Vec<u16> {
 }
 
 struct Reading<'a> {
-    case: &'a Timed,
+    modules: &'a [u8],
+    side: u32,
     message: Vec<u8>,
     answer: Decoded,
+    due: Answer,
+}
+
+impl Reading<'_> {
+    fn answered(case: &Timed) -> Reading<'_> {
+        let Timed { message, sheet, .. } = case;
+        let answer = Decoded {
+            length: message.len() as u32,
+            shape: sheet.shape.number() as u32,
+            position: sheet.position as u32,
+            wrong: case.wrong as u32,
+            ..Decoded::default()
+        };
+        let mut due = untouched_bytes(AMPLE, 0);
+        due[..message.len()].copy_from_slice(message);
+        Reading::new(&sheet.modules, sheet.shape.side() as u32, &answer, due)
+    }
+
+    fn refused(case: &Refused) -> Reading<'_> {
+        let due = untouched_bytes(case.room, 0);
+        Reading::new(&case.modules, case.side, &refusal(case.number), due)
+    }
+
+    /// A grid, and what is due: the answer, and the message buffer.
+    fn new<'a>(modules: &'a [u8], side: u32, answer: &Decoded, message: Vec<u8>) -> Reading<'a> {
+        Reading {
+            modules,
+            side,
+            due: Answer {
+                fields: read_fields(answer),
+                buffer: widened(&message),
+            },
+            message,
+            answer: Decoded::default(),
+        }
+    }
 }
 
 impl Job for Reading<'_> {
     fn reset(&mut self) {
-        self.message.copy_from_slice(&untouched_bytes(AMPLE, 0));
+        let before = untouched_bytes(self.message.len(), 0);
+        self.message.copy_from_slice(&before);
         self.answer = Decoded::default();
     }
 
     fn once(&mut self, library: &Library) {
-        let sheet = black_box(&self.case.sheet);
-        let side = sheet.shape.side() as u32;
-        self.answer = decoded(library.decode, &sheet.modules, side, &mut self.message);
+        let modules = black_box(self.modules);
+        self.answer = decoded(library.decode, modules, self.side, &mut self.message);
     }
 
     fn answers(&self) -> Vec<Answer> {
@@ -75,20 +117,7 @@ impl Job for Reading<'_> {
     }
 
     fn due(&self) -> Vec<Option<Answer>> {
-        let Timed { message, sheet, .. } = self.case;
-        let answer = Decoded {
-            length: message.len() as u32,
-            shape: sheet.shape.number() as u32,
-            position: sheet.position as u32,
-            wrong: self.case.wrong as u32,
-            ..Decoded::default()
-        };
-        let mut due = untouched_bytes(AMPLE, 0);
-        due[..message.len()].copy_from_slice(message);
-        vec![Some(Answer {
-            fields: read_fields(&answer),
-            buffer: widened(&due),
-        })]
+        vec![Some(self.due.clone())]
     }
 }
 

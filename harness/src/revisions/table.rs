@@ -13,6 +13,14 @@ impl Unit {
     pub const MICRO: Unit = Unit("µs", 1e6);
     pub const NANO: Unit = Unit("ns", 1e9);
 
+    /// Nanoseconds below a microsecond, else microseconds.
+    pub fn of(outcome: &Outcome) -> Unit {
+        match outcome.before.fast < 1e-6 {
+            true => Unit::NANO,
+            false => Unit::MICRO,
+        }
+    }
+
     fn span(self, times: Times) -> String {
         let [fast, slow] = [times.fast, times.slow].map(|seconds| self.told(seconds));
         format!("{fast} to {slow}")
