@@ -1,19 +1,18 @@
--- What the decoder answers, and the message buffer afterwards (document 01, "How a grid is read" and numbers 11 to 21): the stages in
--- order, the first that fails by its number.
+-- What the decoder answers, and the message buffer afterwards (document 01, "How a grid is read" and numbers 11 to 21): a view of how the
+-- walk over the grid ends.
 -- Assumes nothing.
-use mathlib.Core.Bool.{Bool, not, cond}
+use mathlib.Core.Bool.{cond}
 use mathlib.Core.List.{List, _++_}
-use mathlib.Core.Option.{Option, none, some}
-use Prim.Native.Nat.{ℕ, _+_, _*_}
-use lib.Dec.{eqb, leb}
-use lib.ListN.{length, take, drop}
-use Rattle.stream.specs.Items as items
-use Rattle.symbol.specs.Shapes.{wordSize, numberOf}
-use Rattle.orientation.specs.Modules.{lawfulModules}
-use Rattle.orientation.specs.Sides.{isSide}
-use Rattle.orientation.specs.Family.{looksFull}
-use Rattle.orientation.specs.Position.{position}
-use Rattle.recovery.specs.Stages.{modeIn, saidLayers, saidWords, lawfulMode, blockIn, unreadWords, wrongWords}
+use Prim.Native.Nat.{ℕ}
+use lib.Dec.{leb}
+use lib.ListN.{length, drop}
+use Rattle.block_code.specs.Nearest.{differ}
+use Rattle.block_code.specs.Nearest as code
+use Rattle.symbol.specs.Shapes as shape
+use Rattle.walk.specs.declared.Layout.{Layout}
+use Rattle.walk.specs.declared.Outcome.{Outcome}
+use Rattle.walk.specs.declared.Outcome.the-variants.{Refused, Unplaced, Unlawful, Uncorrected, Faulty, Says}
+use Rattle.walk.specs.Walk.{Walk, numberOf, walkOf}
 use Rattle.decoder.specs.declared.Decoded.{Decoded}
 
 pub record Result : Type 0 where
@@ -25,58 +24,38 @@ abbrev pub refused : ℕ → List ℕ → Result
 refused k buffer =
     record { answer = record { number = k; length = 0; shape = 0; position = 0; unread = 0; wrong = 0 }; message = buffer }
 
-module _ (g buffer : List ℕ) where
-  -- "The first bytes of the message buffer are the message; the rest keep their bytes"
-  abbrev pub delivered : Bool → ℕ → ℕ → List ℕ → List ℕ → Result
-  delivered f L p found text =
+module _ (buffer : List ℕ) (w : Walk) where
+  -- a message of n bytes: "The first bytes of the message buffer are the message; the rest keep their bytes". The two counts are "words with
+  -- an unread module, and fully read words that differ from the block found"
+  abbrev pub delivered : Layout → ℕ → Result
+  delivered l n =
       record {
         answer =
             record {
               number = 0;
-              length = length text;
-              shape = numberOf f L;
-              position = p;
-              unread = unreadWords f L p g;
-              wrong = wrongWords f L p g found;
+              length = n;
+              shape = shape.numberOf (l .full) (l .layers);
+              position = l .position;
+              unread = code.unread (w .unread);
+              wrong = differ (w .received) (w .unread) (w .found);
             };
-        message = text ++ drop (length text) buffer;
+        message = w .text ++ drop n buffer;
       }
 
+  abbrev refusal : Result
+  refusal = refused (numberOf (w .outcome)) buffer
+
   -- 21: "message buffer too short"
-  unfoldable pub deliver : Bool → ℕ → ℕ → List ℕ → List ℕ → Result
-  deliver f L p found text = cond (leb (length text) (length buffer)) (delivered f L p found text) (refused 21 buffer)
+  abbrev pub answerBy : Outcome → Result
+  answerBy (Says l n) = cond (leb n (length buffer)) (delivered l n) (refused 21 buffer)
+  answerBy (Refused k) = refusal
+  answerBy (Unplaced best positions) = refusal
+  answerBy (Unlawful failed) = refusal
+  answerBy (Uncorrected e K) = refusal
+  answerBy (Faulty k bit) = refusal
 
-  -- 18, 19 and 20: what the corrected data words say
-  abbrev pub readStream : Bool → ℕ → ℕ → List ℕ → items.Reading → Result
-  readStream f L p found (items.message text) = deliver f L p found text
-  readStream f L p found (items.refused k at) = refused k buffer
+  abbrev pub answerOf : Result
+  answerOf = answerBy (w .outcome)
 
-  -- 17
-  abbrev pub readBlock : Bool → ℕ → ℕ → ℕ → Option (List ℕ) → Result
-  readBlock f L D p none = refused 17 buffer
-  readBlock f L D p (some found) = readStream f L p found (items.judge (wordSize L) (take D found))
-
-  -- 16
-  unfoldable pub readShape : Bool → ℕ → ℕ → ℕ → ℕ → Result
-  readShape f n p L D = cond (lawfulMode f n L D) (readBlock f L D p (blockIn f L D p g)) (refused 16 buffer)
-
-  -- 15
-  abbrev pub readMode : Bool → ℕ → ℕ → Option (List ℕ) → Result
-  readMode f n p none = refused 15 buffer
-  readMode f n p (some ms) = readShape f n p (saidLayers f ms) (saidWords f ms)
-
-  -- 14
-  abbrev pub readIn : Bool → ℕ → Option ℕ → Result
-  readIn f n none = refused 14 buffer
-  readIn f n (some p) = readMode f n p (modeIn f n p g)
-
-  -- the family decides where the orientation modules are
-  unfoldable pub readGrid : ℕ → Result
-  readGrid n = let f = looksFull n g in readIn f n (position f n g)
-
--- 11 "side is not a shape's", 12 "grid length isn't side²", 13 "a module above 2"
 unfoldable pub decodeOf : List ℕ → ℕ → List ℕ → Result
-decodeOf g n buffer =
-    cond (not (isSide n)) (refused 11 buffer)
-    (cond (not (eqb (length g) (n * n))) (refused 12 buffer)
-    (cond (not (lawfulModules g)) (refused 13 buffer) (readGrid g buffer n)))
+decodeOf g n buffer = answerOf buffer (walkOf g n)

@@ -1,9 +1,3 @@
-pub mod Rooms
-pub mod Counts
-pub mod MessageLength
 pub mod Decode
 pub mod Kept
-pub mod Saying
-pub mod Upright
-pub mod GridLaws
-pub mod UprightLaws
+pub mod DecodeLaws

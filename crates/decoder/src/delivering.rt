@@ -1,18 +1,21 @@
-// From the block found to the answer: the stream's items, the room for the message, the counts.
+// From the walk's outcome to the answer: the room for the message, the counts, the message written.
 use crate::Decoded;
-use crate::counts;
-use stream::items::Verdict;
 use stream_reader::message as stream_message;
 use symbol::shapes;
+use walk::Layout;
+use walk::Outcome;
+use walk::counts;
+use walk::grid;
 ghost use mathlib.Core.Path.{_≡_};
 ghost use mathlib.Core.List.{[]};
 ghost use Prim.Native.Nat.{_≤_, _<_};
 ghost use lib.ListN.{length, take};
 ghost use Rattle.stream.specs.Items as items;
 ghost use Rattle.symbol.specs.Shapes as shape;
+ghost use Rattle.walk.specs.Walk.{numberOf, streamWalk};
+ghost use Rattle.walk.specs.Rooms.{Rooms};
+ghost use Rattle.walk.specs.Saying.{Says};
 ghost use Rattle.decoder.specs.Decode as spec;
-ghost use Rattle.decoder.specs.Upright.{deliverOf};
-ghost use Rattle.decoder.specs.Saying.{Says};
 
 pub fn refused(number: u32) -> Decoded
     ensures { λ r. ⌜ r ≡ spec.refused number [] .answer ⌝ }
@@ -28,7 +31,7 @@ pub fn refused(number: u32) -> Decoded
 }
 
 // The shape's number.
-fn number_of(full: bool, layers: usize) -> u32
+fn shape_of(full: bool, layers: usize) -> u32
     requires { ⌜ layers ≤ 32 ⌝ }
     ensures { λ r. ⌜ r ≡ shape.numberOf full layers ⌝ }
 {
@@ -38,30 +41,44 @@ fn number_of(full: bool, layers: usize) -> u32
     layers as u32
 }
 
+// The number of an outcome; 0 for a message, which may still lack room.
+fn number_of(outcome: Outcome) -> u32
+    ensures { λ r. ⌜ r ≡ numberOf outcome ⌝ }
+{
+    match outcome {
+        Outcome::Refused(number) => number,
+        Outcome::Unplaced(_, _) => 14,
+        Outcome::Unlawful(_) => 16,
+        Outcome::Uncorrected(_, _) => 17,
+        Outcome::Faulty(number, _) => number,
+        Outcome::Says(_, _) => 0,
+    }
+}
+
 // The answer for a message of so many bytes, which is written if it has room.
-fn finish(
-    full: bool,
-    layers: usize,
-    position: usize,
-    data_words: usize,
+fn deliver(
+    layout: Layout,
     bytes: usize,
     received: &[u16],
     unread: &[u8],
     found: &[u16],
     message: &mut [u8],
 ) -> Decoded
-    requires { ⌜ shape.Shaped full layers ⌝ ∗ ⌜ (position < 8) × («data_words» ≤ length (now found)) × (length (now found) ≤ 1664) ⌝ }
+    requires { ⌜ shape.Shaped (layout .full) (layout .layers) ⌝
+        ∗ ⌜ (layout .position < 8) × (layout .«data_words» ≤ length (now found)) × (length (now found) ≤ 1664) ⌝ }
     requires { ⌜ (length (now received) ≡ length (now found)) × (length (now unread) ≡ length (now found)) ⌝ }
-    requires { ⌜ Says (items.judge (shape.wordSize layers) (take «data_words» (now found))) bytes ⌝ }
-    ensures { λ r. ⌜ r ≡ deliverOf (now (message .entry)) full layers position (now (received .entry)) (now (unread .entry))
-        (now (found .entry)) (items.judge (shape.wordSize layers) (take «data_words» (now (found .entry)))) .answer ⌝ }
-    ensures { λ r. ⌜ now (message .exit) ≡ deliverOf (now (message .entry)) full layers position (now (received .entry))
+    requires { ⌜ Says (items.judge (shape.wordSize (layout .layers)) (take (layout .«data_words») (now found))) bytes ⌝ }
+    ensures { λ r. ⌜ r ≡ spec.answerOf (now (message .entry)) (streamWalk layout (now (received .entry)) (now (unread .entry))
+        (now (found .entry)) (items.judge (shape.wordSize (layout .layers)) (take (layout .«data_words») (now (found .entry))))) .answer ⌝ }
+    ensures { λ _. ⌜ now (message .exit) ≡ spec.answerOf (now (message .entry)) (streamWalk layout (now (received .entry))
         (now (unread .entry)) (now (found .entry))
-        (items.judge (shape.wordSize layers) (take «data_words» (now (found .entry)))) .message ⌝ }
+        (items.judge (shape.wordSize (layout .layers)) (take (layout .«data_words») (now (found .entry))))) .message ⌝ }
 {
     if message.len() < bytes {
         return refused(21);
     }
+    let layers = layout.layers;
+    let data_words = layout.data_words;
     let words = received.len();
     let unread_words = counts::count_unread(words, unread);
     let wrong_words = counts::count_wrong(words, received, unread, found);
@@ -70,45 +87,37 @@ fn finish(
     Decoded {
         number: 0,
         length: bytes as u32,
-        shape: number_of(full, layers),
-        position: position as u32,
+        shape: shape_of(layout.full, layers),
+        position: layout.position as u32,
         unread: unread_words,
         wrong: wrong_words,
     }
 }
 
-// What the block found says: its message, or 18, 19, 20 or 21.
-pub fn deliver(
-    full: bool,
-    layers: usize,
-    position: usize,
-    data_words: usize,
-    received: &[u16],
-    unread: &[u8],
-    found: &[u16],
+// The walk and then the delivery, with room for the words of any shape.
+pub fn decode_in(
+    n: usize,
+    grid: &[u8],
+    received: &mut [u16],
+    unread: &mut [u8],
+    found: &mut [u16],
     message: &mut [u8],
 ) -> Decoded
-    requires { ⌜ shape.Shaped full layers ⌝ ∗ ⌜ (position < 8) × («data_words» ≤ length (now found)) × (length (now found) ≤ 1664) ⌝ }
-    requires { ⌜ (length (now received) ≡ length (now found)) × (length (now unread) ≡ length (now found)) ⌝ }
-    ensures { λ r. ⌜ r ≡ deliverOf (now (message .entry)) full layers position (now (received .entry)) (now (unread .entry))
-        (now (found .entry)) (items.judge (shape.wordSize layers) (take «data_words» (now (found .entry)))) .answer ⌝ }
-    ensures { λ r. ⌜ now (message .exit) ≡ deliverOf (now (message .entry)) full layers position (now (received .entry))
-        (now (unread .entry)) (now (found .entry))
-        (items.judge (shape.wordSize layers) (take «data_words» (now (found .entry)))) .message ⌝ }
+    requires { ⌜ Rooms (now received) (now unread) (now found) ⌝ }
+    ensures { λ r. ⌜ r ≡ spec.decodeOf (now (grid .entry)) n (now (message .entry)) .answer ⌝ }
+    ensures { λ _. ⌜ now (message .exit) ≡ spec.decodeOf (now (grid .entry)) n (now (message .entry)) .message ⌝ }
 {
-    let size = shapes::word_size_of(layers);
-    match stream_message::judge(&found[..data_words], size) {
-        Verdict::Message(bytes) => finish(
-            full,
-            layers,
-            position,
-            data_words,
-            bytes,
-            received,
-            unread,
-            found,
-            message,
-        ),
-        Verdict::Refused(number, _) => refused(number),
-    }
+    let outcome = grid::walk(n, grid, received, unread, found);
+    let Outcome::Says(layout, bytes) = outcome else {
+        return refused(number_of(outcome));
+    };
+    let count = shapes::words_of(layout.full, layout.layers);
+    deliver(
+        layout,
+        bytes,
+        &received[..count],
+        &unread[..count],
+        &found[..count],
+        message,
+    )
 }

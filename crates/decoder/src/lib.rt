@@ -2,10 +2,7 @@
 ghost use mathlib.Core.Path.{_≡_};
 ghost use Rattle.decoder.specs.Decode.{decodeOf};
 
-pub mod counts;
 pub mod delivering;
-pub mod grid;
-pub mod shaped;
 
 // What the decoder answers: a number, and after 0 the message's length, the shape's number, the position, and the two counts. Any other
 // number has zeros beside it.
@@ -24,21 +21,15 @@ pub fn decode(grid: &[u8], side: u32, message: &mut [u8]) -> Decoded
     ensures { λ r. ⌜ r ≡ decodeOf (now (grid .entry)) side (now (message .entry)) .answer ⌝ }
     ensures { λ r. ⌜ now (message .exit) ≡ decodeOf (now (grid .entry)) side (now (message .entry)) .message ⌝ }
 {
-    let mut upright = [0u8; 22801];
-    let mut mode_words = [0u16; 10];
     let mut received = [0u16; 1664];
     let mut unread = [0u8; 1664];
-    let mut marks = [0u8; 1664];
     let mut found = [0u16; 1664];
-    grid::decode_in(
-        &mut upright,
-        &mut mode_words,
-        &mut received,
-        &mut unread,
-        &mut marks,
-        &mut found,
+    delivering::decode_in(
         side as usize,
         grid,
+        &mut received,
+        &mut unread,
+        &mut found,
         message,
     )
 }

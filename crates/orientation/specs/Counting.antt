@@ -1,8 +1,9 @@
 -- What the search for the position keeps: the table of the twelve upright places, and the matches of each position.
 -- Assumes nothing.
 use mathlib.Core.Path.{_≡_, refl, sym, ap, ap₂, _∙_}
-use mathlib.Core.Bool.{Bool, true, false, _&&_, _||_}
+use mathlib.Core.Bool.{Bool, true, false, cond, _&&_, _||_}
 use mathlib.Core.List.{List}
+use mathlib.Core.Option.{Option, some}
 use Prim.Native.Nat.{ℕ, zero, suc, _+_, _≤_, _<_}
 use native.Mathlib.Omega.{arith}
 use native.Mathlib.Decide.{ℕ-discrete}
@@ -12,9 +13,10 @@ use lib.Seq.{getD-set-same, getD-set-other}
 use borrow.Author.Tests.{eq-eqb, ne-eqb, lt-ltb, le-ltb}
 use Rattle.list_laws.specs.Tests.{true-of, holds}
 use Rattle.list_laws.specs.Range.{all, all-of, all-but}
+use Rattle.list_laws.specs.Search.{firstFrom}
 use Rattle.list_laws.specs.Writes.{writes, writes-same}
 use Rattle.symbol.specs.Places.{orientationPlace}
-use Rattle.orientation.specs.Position.{matches, single}
+use Rattle.orientation.specs.Position.{matches, single, position}
 
 -- the twelve upright places
 abbrev pub Upright : Bool → ℕ → List ℕ → Type 0
@@ -42,11 +44,22 @@ unfolding all
 all-same zero s t h = refl
 all-same (suc n) s t h = ap₂ (λ (a b : Bool). a && b) (all-same n s t (λ q l. h q (omega arith))) (h n (omega arith))
 
-pub single-same : (s t : ℕ → ℕ) → ((q : ℕ) → q < 8 → s q ≡ t q) → (p : ℕ) → p < 8 → single s p ≡ single t p
+single-same : (s t : ℕ → ℕ) → ((q : ℕ) → q < 8 → s q ≡ t q) → (p : ℕ) → p < 8 → single s p ≡ single t p
 unfolding single
 single-same s t h p l =
     ap₂ (λ (a b : Bool). a && b) (ap (leb 9) (h p l))
     (all-same 8 _ _ (λ q k. ap₂ (λ (a b : ℕ). eqb q p || ltb a b) (h q k) (h p l)))
+
+first-same : (s t : ℕ → Bool) (n i : ℕ) → ((k : ℕ) → k < i + n → s k ≡ t k) → firstFrom s i n ≡ firstFrom t i n
+unfolding firstFrom
+first-same s t zero i h = refl
+first-same s t (suc n) i h =
+    ap₂ (λ (b : Bool) (o : Option ℕ). cond b (some i) o) (h i (omega arith)) (first-same s t n (i + 1) (λ k l. h k (omega arith)))
+
+pub position-same : (f : Bool) (n : ℕ) (g counts : List ℕ) → Counted f n g counts 8
+    → firstFrom (single (λ q. getD counts q 0)) 0 8 ≡ position f n g
+unfolding position
+position-same f n g counts h = first-same _ _ 8 0 (λ p l. single-same _ _ h p (omega arith))
 
 -- a position is lost where another has as many, and else its own matches decide
 and-false : (b : Bool) → b && false ≡ false

@@ -14,7 +14,11 @@ use Rattle.symbol.specs.Shapes.{side, core, isFull, layers}
 use Rattle.symbol.specs.Places.{turned, corePlace, orientationCell, orientationPlace}
 use Rattle.symbol.specs.Drawing.{orientationBits}
 use Rattle.symbol.specs.Positions.{placeIn}
+use Rattle.orientation.specs.declared.position.Placement.the-variants.{At, Nowhere}
 use Rattle.orientation.specs.Position.{matches, single, position}
+use Rattle.orientation.specs.Greatest.{most}
+use Rattle.orientation.specs.Masks.{maskFrom}
+use Rattle.orientation.specs.Placement.{bestMatches, bestPositions, placementOf}
 use Rattle.orientation.specs.Family.{ringCell, darkRing, looksFull}
 use Rattle.orientation.specs.Sides.{hasSide, isSide}
 
@@ -65,6 +69,13 @@ pub positions-right : map (λ (c : Turned). position (c .full) (c .side) (c .gri
 unfolding turns painted writes matches count placeIn turned orientationPlace orientationCell corePlace core orientationBits position single
     all firstFrom
 positions-right = refl
+
+-- of those without a position, positions 0 and 4 have 10 matches, 0 alone 8, and all eight none
+pub placements-right : map (λ (c : Turned). placementOf (c .full) (c .side) (c .grid)) turns
+    ≡ At 0 ∷ At 1 ∷ At 2 ∷ At 3 ∷ At 4 ∷ At 5 ∷ At 6 ∷ At 7 ∷ At 1 ∷ At 6 ∷ Nowhere 10 17 ∷ At 4 ∷ At 0 ∷ Nowhere 8 1 ∷ Nowhere 0 255 ∷ []
+unfolding turns painted writes matches count placeIn turned orientationPlace orientationCell corePlace core orientationBits position single
+    all firstFrom bestMatches bestPositions most maskFrom
+placements-right = refl
 
 -- a grid, how many modules at distance 5 are dark, and whether it looks full
 pub record Ringed : Type 0 where

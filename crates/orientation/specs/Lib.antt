@@ -1,6 +1,9 @@
 pub mod Position
 pub mod Counting
 pub mod PositionLaws
+pub mod Greatest
+pub mod Masks
+pub mod Placement
 pub mod Family
 pub mod Sides
 pub mod Modules

@@ -1,12 +1,17 @@
-// The position of a sampled grid: the one of the eight in which most of the twelve orientation modules match.
+// The position of a sampled grid: the one of the eight in which most of the twelve orientation modules match, or why there is none.
 use symbol::places;
 ghost use mathlib.Core.Path.{_≡_};
 ghost use Prim.Native.Nat.{ℕ, _*_, _≤_, _<_};
+ghost use lib.Dec.{eqb};
 ghost use lib.ListN.{length, getD};
+ghost use Rattle.list_laws.specs.Search.{firstFrom};
 ghost use Rattle.symbol.specs.Shapes.{core};
 ghost use Rattle.symbol.specs.Positions.{placeIn};
-ghost use Rattle.orientation.specs.Position.{matches, single, position, positionNumber};
+ghost use Rattle.orientation.specs.Position.{matches, single, positionNumber};
 ghost use Rattle.orientation.specs.Counting.{Upright, Counted};
+ghost use Rattle.orientation.specs.Greatest.{most};
+ghost use Rattle.orientation.specs.Masks.{maskFrom};
+ghost use Rattle.orientation.specs.Placement.{placementOf};
 
 // 111 011 100 000, clockwise from the module below the top left corner.
 const ORIENTATION: [u8; 12] = [1, 1, 1, 0, 1, 1, 1, 0, 0, 0, 0, 0];
@@ -72,17 +77,69 @@ fn is_single(counts: &[usize; 8], p: usize) -> bool
 }
 
 // The position that is taken, 0 to 7, or 8 for none.
-pub fn position_of(full: bool, n: usize, grid: &[u8]) -> usize
-    requires { ⌜ (2 * core full < n) × (n ≤ 151) × (n * n ≤ length (now grid)) ⌝ }
-    ensures { λ r. ⌜ r ≡ positionNumber (position full n (now (grid .entry))) ⌝ }
+fn position_in(counts: &[usize; 8]) -> usize
+    ensures { λ r. ⌜ r ≡ positionNumber (firstFrom (single (λ (q : ℕ). getD (now (counts .entry)) q 0)) 0 8) ⌝ }
 {
-    let counts = count_matches(full, n, grid);
     let mut p = 0;
     while p < 8 {
-        if is_single(&counts, p) {
+        if is_single(counts, p) {
             return p;
         }
         p += 1;
     }
     8
+}
+
+// The best match count.
+fn most_of(counts: &[usize; 8]) -> usize
+    ensures { λ r. ⌜ r ≡ most (λ (q : ℕ). getD (now (counts .entry)) q 0) 8 ⌝ }
+{
+    let mut most = 0;
+    let mut p = 0;
+    while p < 8 {
+        let count = counts[p];
+        if most < count {
+            most = count;
+        }
+        p += 1;
+    }
+    most
+}
+
+// The positions with so many matches, position p as bit p.
+fn positions_with(most: usize, counts: &[usize; 8]) -> u32
+    ensures { λ r. ⌜ r ≡ maskFrom (λ (q : ℕ). eqb (getD (now (counts .entry)) q 0) most) 0 8 ⌝ }
+{
+    let mut mask: u32 = 0;
+    let mut p = 8;
+    while 0 < p {
+        p -= 1;
+        mask *= 2;
+        if counts[p] == most {
+            mask += 1;
+        }
+    }
+    mask
+}
+
+// Where the twelve orientation modules put a grid. At: in position 0 to 7. Nowhere: no single best position with 9 matches (number 14); the
+// best match count, and the positions that have it, position p as bit p.
+pub enum Placement {
+    At(usize),
+    Nowhere(u32, u32),
+}
+
+pub fn placement_of(full: bool, n: usize, grid: &[u8]) -> Placement
+    requires { ⌜ (2 * core full < n) × (n ≤ 151) × (n * n ≤ length (now grid)) ⌝ }
+    ensures { λ r. ⌜ r ≡ placementOf full n (now (grid .entry)) ⌝ }
+{
+    let counts = count_matches(full, n, grid);
+    let p = position_in(&counts);
+    if p < 8 {
+        return Placement::At(p);
+    }
+    let most = most_of(&counts);
+    let positions = positions_with(most, &counts);
+    let matched = most as u32;
+    Placement::Nowhere(matched, positions)
 }

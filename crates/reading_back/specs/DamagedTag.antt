@@ -42,7 +42,11 @@ use Rattle.encoder.specs.ModeLaws.{length-mode-words, mode-valid}
 use Rattle.encoder.specs.Encode.{block}
 use Rattle.encoder.specs.Fitting.{Fitting, size-is, block-valid, length-block}
 use Rattle.recovery.specs.Stages.{modeWordsIn, modeMarksIn, modeIn, saidLayers, saidWords, lawfulMode, blockWordsIn, blockMarksIn, blockIn, unreadWords, wrongWords}
-use Rattle.decoder.specs.Decode.{refused, delivered, deliver, readStream, readBlock, readShape, readMode, readIn, readGrid, decodeOf}
+use Rattle.walk.specs.Walk.{layoutOf, unreadIn}
+use Rattle.walk.specs.Ends.{Taken, Message}
+use Rattle.walk.specs.BlockIn.{nearest-in}
+use Rattle.decoder.specs.Decode.{decodeOf}
+use Rattle.decoder.specs.DecodeLaws.{message-read}
 use Rattle.reading_back.specs.Within.{Within}
 
 -- words and marks of one table, the words below 2^B: a valid block within the limit is found
@@ -186,18 +190,41 @@ module _ (message : List ℕ) (x : Bytes message) (f : Bool) (L D : ℕ) (fit : 
         (data-block : Within (words f L - D) (blockWordsIn f L p g) (blockMarksIn f L D p g) (block message f L))
         (space : length message ≤ length buffer) where
       -- no number before 14
-      taken : decodeOf g n buffer ≡ readGrid g buffer n
-      unfolding decodeOf lawfulModules
+      taken : Taken g n
+      unfolding lawfulModules
       taken =
-          rw (
-            side-of-shape f L (fit .shaped),
-            eq-eqb (length g) (n * n) size,
-            true-of (all (length g) (λ k. leb (getD g k 0) 2)) (all-of (length g) _ (λ k h. le→leb _ _ (read k h))),
-          ) refl
+          record {
+            side-is = side-of-shape f L (fit .shaped);
+            size-is = size;
+            modules-are = true-of (all (length g) (λ k. leb (getD g k 0) 2)) (all-of (length g) _ (λ k h. le→leb _ _ (read k h)));
+          }
 
       lawful : lawfulMode f n L D ≡ true
       unfolding lawfulMode
       lawful = rw (eq-eqb (side f L) n refl, le-leb (D + 3) (words f L) (fit .checks)) refl
+
+      -- every stage finds what was made
+      walked : Message g n (layoutOf f L p D) (length message) (blockWordsIn f L p g) (unreadIn f L p g) (block message f L) message
+      walked =
+          record {
+            sampled =
+                record {
+                  moded =
+                      record {
+                        at = record { taken = taken; judged = family-is; placed = position-found };
+                        mode = modeWords f L D;
+                        corrected = mode-found mode;
+                        layers-said = says-layers f L D (fit .shaped) (fit .some-words) (fit .most);
+                        words-said = says-words f L D (fit .shaped) (fit .some-words) (fit .most);
+                      };
+                  lawful = lawful;
+                  received-is = refl;
+                  unread-is = refl;
+                };
+            block-is = nearest-in f L D p g ∙ block-found data-block;
+            message-is = judged;
+            size = refl;
+          }
 
       pub tag-read : decodeOf g n buffer
           ≡ record {
@@ -212,16 +239,4 @@ module _ (message : List ℕ) (x : Bytes message) (f : Bool) (L D : ℕ) (fit : 
                 };
             message = message ++ drop (length message) buffer;
           }
-      unfolding readGrid readShape deliver
-      tag-read =
-          taken
-          ∙ ap (λ b. readIn g buffer b n (position b n g)) family-is
-          ∙ ap (readIn g buffer f n) position-found
-          ∙ ap (readMode g buffer f n p) (mode-found mode)
-          ∙ ap₂ (readShape g buffer f n p) (says-layers f L D (fit .shaped) (fit .some-words) (fit .most))
-          (says-words f L D (fit .shaped) (fit .some-words) (fit .most))
-          ∙ ap (λ b. cond b (readBlock g buffer f L D p (blockIn f L D p g)) (refused 16 buffer)) lawful
-          ∙ ap (readBlock g buffer f L D p) (block-found data-block)
-          ∙ ap (readStream g buffer f L p (block message f L)) judged
-          ∙ ap (λ b. cond b (delivered g buffer f L p (block message f L) message) (refused 21 buffer))
-          (le-leb (length message) (length buffer) space)
+      tag-read = message-read g n buffer walked space

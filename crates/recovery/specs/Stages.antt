@@ -41,6 +41,16 @@ saidWords true ms = (getD ms 1 0 % 8 * 16 + getD ms 2 0) * 16 + getD ms 3 0 + 1
 unfoldable pub lawfulMode : Bool → ℕ → ℕ → ℕ → Bool
 lawfulMode f n L D = eqb (side f L) n && leb (D + 3) (words f L)
 
+-- which of the two fails (document 02, 6/12, "For 16: 1 if the side's condition fails, 2 if D's, 3 if both")
+unfoldable pub sideFailed : Bool → ℕ → ℕ → ℕ
+sideFailed f n L = cond (eqb (side f L) n) 0 1
+
+unfoldable pub wordsFailed : Bool → ℕ → ℕ → ℕ
+wordsFailed f L D = cond (leb (D + 3) (words f L)) 0 2
+
+unfoldable pub failedMode : Bool → ℕ → ℕ → ℕ → ℕ
+failedMode f n L D = sideFailed f n L + wordsFailed f L D
+
 unfoldable pub blockWordsIn : Bool → ℕ → ℕ → List ℕ → List ℕ
 blockWordsIn f L p g = tabulate (blockWord f L p g) (words f L)
 

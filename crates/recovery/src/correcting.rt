@@ -75,7 +75,8 @@ fn copy_marks(from: &[u8], to: &mut [u8])
     }
 }
 
-// The block of an upright grid, with the words and the unread marks that it was found by; whether there is one within the limit.
+// The block of an upright grid, with the words, the unread marks and the corrector's marks that it was found by; whether there is one within
+// the limit.
 pub fn correct_block(
     received: &mut [u16],
     unread: &mut [u8],
@@ -92,6 +93,8 @@ pub fn correct_block(
     requires { ⌜ (length (now marks) ≡ shape.words full layers) × (length (now found) ≡ shape.words full layers) ⌝ }
     ensures { λ _. ⌜ now (received .exit) ≡ blockWordsOf full layers (now (upright .entry)) ⌝ }
     ensures { λ _. ⌜ now (unread .exit) ≡ blockMarksOf full layers (now (upright .entry)) ⌝ }
+    ensures { λ _. ⌜ now (marks .exit) ≡ flatMarked (shape.wordSize layers) «data_words» (blockWordsOf full layers (now (upright .entry)))
+        (blockMarksOf full layers (now (upright .entry))) ⌝ }
     ensures { λ r. ⌜ Corrected r (now (found .exit))
         (nearest (sizeOf (shape.wordSize layers)) (shape.words full layers - «data_words») (shape.words full layers - «data_words»)
         (blockWordsOf full layers (now (upright .entry)))

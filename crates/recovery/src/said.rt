@@ -3,7 +3,7 @@ use symbol::shapes;
 ghost use mathlib.Core.Path.{_≡_};
 ghost use Prim.Native.Nat.{_≤_, _<_};
 ghost use lib.ListN.{length, getD};
-ghost use Rattle.recovery.specs.Stages.{saidLayers, saidWords, lawfulMode};
+ghost use Rattle.recovery.specs.Stages.{saidLayers, saidWords, sideFailed, wordsFailed, failedMode};
 ghost use Rattle.recovery.specs.Said.{Nibbles};
 
 // One of the first four words. It is below 16, so no sum here runs over.
@@ -36,13 +36,32 @@ pub fn said_words(full: bool, words: &[u16]) -> usize
     nibble(words, 0) % 4 * 16 + nibble(words, 1) + 1
 }
 
-// Whether L gives this side, and D leaves at least 3 check words.
-pub fn is_lawful(full: bool, n: usize, layers: usize, data_words: usize) -> bool
-    requires { ⌜ (layers ≤ 32) × («data_words» ≤ 2048) ⌝ }
-    ensures { λ r. ⌜ r ≡ lawfulMode full n layers «data_words» ⌝ }
+// 1 if L doesn't give this side.
+fn side_failed(full: bool, n: usize, layers: usize) -> u32
+    requires { ⌜ layers ≤ 32 ⌝ }
+    ensures { λ r. ⌜ r ≡ sideFailed full n layers ⌝ }
 {
     if shapes::side_of(full, layers) != n {
-        return false;
+        return 1;
     }
-    data_words + 3 <= shapes::words_of(full, layers)
+    0
+}
+
+// 2 if D leaves fewer than 3 check words.
+fn words_failed(full: bool, layers: usize, data_words: usize) -> u32
+    requires { ⌜ (layers ≤ 32) × («data_words» ≤ 2048) ⌝ }
+    ensures { λ r. ⌜ r ≡ wordsFailed full layers «data_words» ⌝ }
+{
+    if data_words + 3 <= shapes::words_of(full, layers) {
+        return 0;
+    }
+    2
+}
+
+// Which of the two conditions fail: 0 for none, 1 the side's, 2 D's, 3 both.
+pub fn failed_of(full: bool, n: usize, layers: usize, data_words: usize) -> u32
+    requires { ⌜ (layers ≤ 32) × («data_words» ≤ 2048) ⌝ }
+    ensures { λ r. ⌜ r ≡ failedMode full n layers «data_words» ⌝ }
+{
+    side_failed(full, n, layers) + words_failed(full, layers, data_words)
 }

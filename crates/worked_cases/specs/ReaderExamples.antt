@@ -10,6 +10,7 @@ use Rattle.list_laws.specs.Range.{count, all}
 use Rattle.list_laws.specs.Search.{firstFrom}
 use Rattle.stream.specs.Stuffing.{flat}
 use Rattle.symbol.specs.Shapes.{side, square, bits, wordSize, words, skipped, core, isFull, layers}
+use Rattle.symbol.specs.Shapes as shape
 use Rattle.symbol.specs.Places.{turned, domino, layerCell, cell, spread, dataPlace, corePlace, orientationCell, orientationPlace}
 use Rattle.symbol.specs.Drawing.{orientationBits}
 use Rattle.symbol.specs.Positions.{placeIn}
@@ -19,8 +20,14 @@ use Rattle.orientation.specs.Modules.{lawfulModules}
 use Rattle.orientation.specs.Sides.{hasSide, isSide}
 use Rattle.orientation.specs.Family.{looksFull}
 use Rattle.orientation.specs.Position.{matches, single, position}
-use Rattle.recovery.specs.Stages.{lawfulMode, blockMark, blockMarksIn, unreadWords, wrongWords}
-use Rattle.decoder.specs.Decode.{refused, deliver, readGrid, decodeOf}
+use Rattle.orientation.specs.Greatest.{most}
+use Rattle.orientation.specs.Masks.{maskFrom}
+use Rattle.orientation.specs.Placement.{bestMatches, bestPositions}
+use Rattle.recovery.specs.Stages.{lawfulMode, sideFailed, wordsFailed, failedMode, blockMark, blockMarksIn, unreadWords, wrongWords}
+use Rattle.walk.specs.declared.Layout.{Layout}
+use Rattle.walk.specs.declared.Outcome.the-variants.{Refused, Unplaced, Unlawful, Uncorrected, Faulty, Says}
+use Rattle.walk.specs.Walk.{Walk, numberOf, ended, layoutOf, gridWalk, walkOf}
+use Rattle.decoder.specs.Decode.{refused, answerOf, decodeOf}
 
 -- "A data word (never a check word, and never a mode word) of all 0s or all 1s is marked too": of four words, two are data words
 pub flat-marks : flatMarked 6 2 (0 ∷ 63 ∷ 0 ∷ 63 ∷ []) (replicate 4 0) ≡ 1 ∷ 1 ∷ 0 ∷ 0 ∷ []
@@ -52,6 +59,17 @@ pub modes :
 unfolding side bits wordSize words lawfulMode
 modes = refl
 
+-- "1 if the side's condition fails, 2 if D's, 3 if both" (document 02, 6/12)
+pub failures :
+    failedMode false 15 1 14
+    ∷ failedMode false 19 1 3
+    ∷ failedMode false 15 1 15
+    ∷ failedMode false 19 1 15
+    ∷ []
+    ≡ 0 ∷ 1 ∷ 2 ∷ 3 ∷ []
+unfolding side bits wordSize words sideFailed wordsFailed failedMode
+failures = refl
+
 -- 13 "a module above 2"
 pub modules : map lawfulModules ((0 ∷ 1 ∷ 2 ∷ []) ∷ (3 ∷ []) ∷ []) ≡ true ∷ false ∷ []
 unfolding all lawfulModules
@@ -69,10 +87,43 @@ module _ (b : List ℕ) where
       ∷ []
       ≡ refused 11 b ∷ refused 12 b ∷ refused 13 b ∷ refused 11 b ∷ refused 14 b ∷ []
   unfolding all count firstFrom side isFull layers core turned corePlace orientationCell orientationPlace orientationBits placeIn
-      hasSide isSide looksFull matches single position lawfulModules readGrid decodeOf
+      hasSide isSide looksFull matches single position lawfulModules gridWalk walkOf decodeOf
   refusals = refl
 
--- 21 "message buffer too short", whatever block was found
-pub no-room : (g found : List ℕ) → deliver g (7 ∷ []) false 1 0 found (65 ∷ 66 ∷ []) ≡ refused 21 (7 ∷ [])
-unfolding deliver
-no-room g found = refl
+-- what is known of the last of these: six matches, in every position
+pub light-grid : walkOf (replicate 225 0) 15 ≡ ended (Unplaced 6 255)
+unfolding all count firstFrom side isFull layers core turned corePlace orientationCell orientationPlace orientationBits placeIn
+    hasSide isSide looksFull matches single position most maskFrom bestMatches bestPositions lawfulModules gridWalk walkOf
+light-grid = refl
+
+-- a number for each outcome
+pub numbers : (l : Layout) → map numberOf (Refused 13 ∷ Unplaced 8 3 ∷ Unlawful 1 ∷ Uncorrected 9 8 ∷ Faulty 19 5 ∷ Says l 7 ∷ [])
+    ≡ 13 ∷ 14 ∷ 16 ∷ 17 ∷ 19 ∷ 0 ∷ []
+numbers l = refl
+
+-- 21 "message buffer too short", whatever block was found; with room the message stands before what the buffer held
+module _ (received unread found : List ℕ) where
+  abbrev said : Walk
+  said =
+      record { outcome = Says (layoutOf true 4 6 9) 2; received = received; unread = unread; found = found; text = 65 ∷ 66 ∷ [] }
+
+  pub no-room : answerOf (7 ∷ []) said ≡ refused 21 (7 ∷ [])
+  no-room = refl
+
+  pub just-room : answerOf (7 ∷ 8 ∷ []) said .message ∷ answerOf (7 ∷ 8 ∷ 9 ∷ []) said .message ∷ [] ≡ (65 ∷ 66 ∷ []) ∷ (65 ∷ 66 ∷ 9 ∷ []) ∷ []
+  just-room = refl
+
+-- the fields of an answer: of four words the outer two are unread, and one of the others is wrong; F4 is shape 8
+abbrev four : Walk
+four =
+    record {
+      outcome = Says (layoutOf true 4 6 1) 0;
+      received = 1 ∷ 2 ∷ 3 ∷ 4 ∷ [];
+      unread = 1 ∷ 0 ∷ 0 ∷ 1 ∷ [];
+      found = 5 ∷ 2 ∷ 7 ∷ 4 ∷ [];
+      text = [];
+    }
+
+pub fields : answerOf [] four .answer ≡ record { number = 0; length = 0; shape = 8; position = 6; unread = 2; wrong = 1 }
+unfolding count shape.numberOf
+fields = refl

@@ -1,87 +1,135 @@
--- The verdict is of the reading that the definition has.
+-- A message that has room is written, and the counts are those of what was received.
 -- Assumes nothing.
 use borrow.Author.Needs.{needs}
-use mathlib.Core.Path.{_≡_, sym, ap, _∙_}
-use mathlib.Core.List.{List}
+use mathlib.Core.Path.{_≡_, sym, ap, ap₂, _∙_, subst}
+use mathlib.Core.List.{List, _++_}
 use Prim.Native.Nat.{ℕ}
 use native.Mathlib.Omega.{arith}
-use lib.ListN.{length, take}
+use lib.ListN.{length, take, drop}
 use lib.Seq.{length-take-le}
 use Rattle.stream.specs.Items as items
-use Rattle.symbol.specs.Shapes.{wordSize, word-size-range}
-use Rattle.decoder.specs.Saying.{says-message, says-refused}
-use Rattle.decoder.specs.Upright.{deliverOf}
+use Rattle.stream_reader.specs.Written.{Room, written}
+use Rattle.symbol.specs.Shapes.{wordSize, numberOf, word-size-range}
+use Rattle.symbol.specs.DataPlaces.{most-layers}
+use Rattle.decoder.specs.declared.Decoded.{Decoded}
+use Rattle.walk.specs.Counts.{unreadOf, unread-all, wrong-all}
+use Rattle.walk.specs.Saying.{Says}
+use Rattle.walk.specs.MessageLength.{message-most}
+use Rattle.decoder.specs.DecodeLaws.{deliver-short, deliver-made}
 use Rattle.decoder.proofs.delivering.deliver.Statement.{statement}
 use Rattle.decoder.proofs.delivering.deliver.Tie as tie
 
+-- the data words, and that they say a message
 abbrev words : tie.Start → List ℕ
-words a = take (a .args .data-words) (a .args .found .now)
+words a = take (a .args .layout .«data_words») (a .args .found .now)
 
-length-words : (a : tie.Start) → length (words a) ≡ a .args .data-words
-length-words a = length-take-le (a .args .data-words) (a .args .found .now) (a .pre .1 .0 .1)
+abbrev says : (a : tie.Start) → Says (items.judge (wordSize (a .args .layout .layers)) (words a)) (a .args .bytes)
+says a = a .pre .1 .1 .1
 
--- what was judged is what the definition judges
-judged : (c : tie.After-judge) → (let a = c .before .before .before .before .before .before .before in
-    c .judge .result ≡ items.verdictOf (items.judge (wordSize (a .args .layers)) (words a)))
-judged c =
-    let a = c .before .before .before .before .before .before .before in
-    c .judge .ensures ∙ ap (λ b. items.verdictOf (items.judge b (words a))) (c .before .before .word-size-of .ensures)
-
-word-size-of-requires : tie.Need-word-size-of-requires
-word-size-of-requires c κs = search needs
-
-slice-aggregate-judge : tie.Need-slice-aggregate-judge
-slice-aggregate-judge c = sym (length-words (c .before .before .before .before .before .before))
-
-judge-requires : tie.Need-judge-requires
-judge-requires c κs =
-    let a = c .before .before .before .before .before .before in
-    let e = c .before .word-size-of .ensures in
-    let r = word-size-range (a .args .layers) in
-    (omega (arith, e, r), (omega (arith, e, r), omega (arith, length-words a, a .pre .1 .0)))
-
-enum-known-bytes : tie.Need-enum-known-bytes
-enum-known-bytes c = search needs
-
-finish-requires : tie.Need-finish-requires
-finish-requires c κs =
-    let j = c .before .before .before .before in
-    let a = j .before .before .before .before .before .before .before in
-    (a .pre .0, (a .pre .1 .0, (a .pre .1 .1, says-message _ _ (sym (judged j) ∙ c .before .before .bytes .given .1))))
-
-enum-known-number : tie.Need-enum-known-number
-enum-known-number c = search needs
+length-words : (a : tie.Start) → length (words a) ≡ a .args .layout .«data_words»
+length-words a = length-take-le (a .args .layout .«data_words») (a .args .found .now) (a .pre .1 .0 .1)
 
 refused-requires : tie.Need-refused-requires
 refused-requires c κs = search needs
 
+returns : tie.Need-returns
+returns c =
+    let a = c .before .before .before .before .before .before in
+    let e =
+    deliver-short (a .args .message .now) (a .args .layout) (a .args .received .now) (a .args .unread .now)
+    (a .args .found .now) (says a) (c .before .if1 .taken) in
+    (c .refused .ensures ∙ sym (ap (λ r. r .answer) e), sym (ap (λ r. r .message) e))
+
+count-unread-requires : tie.Need-count-unread-requires
+count-unread-requires c κs = search needs
+
+count-wrong-requires : tie.Need-count-wrong-requires
+count-wrong-requires c κs = search needs
+
+word-size-of-requires : tie.Need-word-size-of-requires
+word-size-of-requires c κs = search needs
+
+slice-aggregate-write-message : tie.Need-slice-aggregate-write-message
+slice-aggregate-write-message c = sym (length-words (c .before .before .before .before .before .before .before .before .before))
+
+write-message-requires : tie.Need-write-message-requires
+write-message-requires c κs =
+    let w = c .before .before in
+    let a = w .before .before .before .before .before .before .before .before in
+    let e = w .word-size-of .ensures in
+    let r = word-size-range (a .args .layout .layers) in (
+      omega (arith, e, r),
+      (
+        omega (arith, e, r),
+        (
+          omega (arith, length-words a, a .pre .1 .0),
+          subst (λ q. Room q (a .args .message .now)) (sym (ap (λ b. items.judge b (words a)) e ∙ says a .is))
+              (omega (arith, says a .size, w .before .before .before .if1 .left)),
+        ),
+      ),
+    )
+
+cast-t20 : tie.Need-cast-t20
+cast-t20 c =
+    let a = c .before .before .before .before .before .before .before .before .before .before .before .before .before in
+    let r = word-size-range (a .args .layout .layers) in
+    omega (
+      arith,
+      says a .size,
+      message-most (wordSize (a .args .layout .layers)) (words a) (says a .text) (says a .is) (omega (arith, length-words a, a .pre .1 .0)) (r .1),
+    )
+
+shape-of-requires : tie.Need-shape-of-requires
+shape-of-requires c κs =
+    let a = c .before .before .before .before .before .before .before .before .before .before .before .before .before in
+    most-layers (a .args .layout .full) (a .args .layout .layers) (a .pre .0)
+
+cast-t22 : tie.Need-cast-t22
+cast-t22 c = search needs
+
 same-length : tie.Need-same-length
 same-length c = search needs
 
-returns : tie.Need-returns
-returns c = search needs
-
 returns-2 : tie.Need-returns-2
 returns-2 c =
-    let j = c .before .before .before .before in
-    let s = j .before .before .before .before .before .before .before in
-    let a = s .args in
+    let d = c .before in
+    let wrote = d .before .before .before in
+    let counted = wrote .before .before .before .before in
+    let a = counted .before .before .before .before .before .before .before in
+    let sizes = a .pre .1 .1 .0 in
     let e =
-    ap (deliverOf (a .message .now) (a .full) (a .layers) (a .position) (a .received .now) (a .unread .now) (a .found .now))
-    (says-refused (items.judge (wordSize (a .layers)) (words s)) _ _ (sym (judged j) ∙ c .before .before .number .given .1)) in
-    (c .refused .ensures ∙ sym (ap (λ r. r .answer) e), sym (ap (λ r. r .message) e))
+    deliver-made (a .args .message .now) (a .args .layout) (a .args .received .now) (a .args .unread .now)
+    (a .args .found .now) (says a) (counted .before .before .if1 .left) in (
+      ap (λ t. fields t (counted .before .count-unread .result) (counted .count-wrong .result)) (d .shape-of .ensures)
+          ∙ ap₂ (fields (numberOf (a .args .layout .full) (a .args .layout .layers)))
+          (counted .before .count-unread .ensures ∙ ap (λ n. unreadOf n (a .args .unread .now)) (sizes .0 ∙ sym (sizes .1)) ∙ unread-all (a .args .unread .now))
+          (counted .count-wrong .ensures ∙ wrong-all (a .args .received .now) (a .args .unread .now) (a .args .found .now))
+          ∙ sym (ap (λ r. r .answer) e),
+      wrote .write-message .ensures
+          ∙ ap (λ q. written q (a .args .message .now))
+          (ap (λ b. items.judge b (words a)) (wrote .before .before .before .word-size-of .ensures) ∙ says a .is)
+          ∙ ap (λ k. says a .text ++ drop k (a .args .message .now)) (says a .size)
+          ∙ sym (ap (λ r. r .message) e),
+    )
+  where
+    fields : ℕ → ℕ → ℕ → Decoded
+    fields t x y =
+        let a = c .before .before .before .before .before .before .before .before .before .before .before .before .before .before .before in
+        record { number = 0; length = a .args .bytes; shape = t; position = a .args .layout .position; unread = x; wrong = y }
 
 pub deliver-spec : {M : Type 1} → statement M
 deliver-spec =
     tie.close
     (tie.spec
-    word-size-of-requires
-    slice-aggregate-judge
-    judge-requires
-    enum-known-bytes
-    finish-requires
-    enum-known-number
     refused-requires
-    same-length
     returns
+    count-unread-requires
+    count-wrong-requires
+    word-size-of-requires
+    slice-aggregate-write-message
+    write-message-requires
+    cast-t20
+    shape-of-requires
+    cast-t22
+    same-length
     returns-2)

@@ -1,37 +1,27 @@
--- The modules before k are 0, 1 or 2.
+-- The greatest of the modules before k.
 -- Assumes nothing.
-use mathlib.Core.Path.{_≡_, sym}
-use mathlib.Core.Bool.{true}
-use Prim.Native.Nat.{ℕ, _-_, _≤_, _<_}
+use mathlib.Core.Path.{_≡_, ap, _∙_}
+use mathlib.Core.Logic.{⊎-elim}
+use Prim.Native.Nat.{ℕ, _-_, _≤_}
 use native.Mathlib.Omega.{arith}
 use lib.Dec.{leb}
 use lib.ListN.{length, getD}
-use borrow.Author.Tests.{lt-leb, le-leb}
-use borrow.Author.Count.{below-more}
-use Rattle.list_laws.specs.Range.{all-of, all-but}
-use Rattle.list_laws.specs.Tests.{true-of, holds}
+use Rattle.orientation.specs.Greatest.{most, most-none, most-more, most-kept, most-leb}
 use Rattle.orientation.specs.Modules.{lawfulModules}
 use Rattle.orientation.proofs.modules.all_lawful.Statement.{statement}
 use Rattle.orientation.proofs.modules.all_lawful.Tie as tie
 
 abbrev Inv-loop : tie.InvT-loop
-Inv-loop grid k₀ k = (k ≤ length grid) × ((i : ℕ) → i < k → leb (getD grid i 0) 2 ≡ true)
+Inv-loop grid most₀ k₀ so-far k = (k ≤ length grid) × (so-far ≡ most (λ i. getD grid i 0) k)
 
 abbrev μ-loop : tie.MeasureT-loop
-μ-loop grid k₀ k = length grid - k
+μ-loop grid most₀ k₀ so-far k = length grid - k
 
 loop-holds : tie.Need-loop-holds Inv-loop μ-loop
-loop-holds c = (omega arith, λ i h. absurd (omega arith))
+loop-holds c = (omega arith, most-none _)
 
-shared-slice-read-if1 : tie.Need-shared-slice-read-if1 Inv-loop μ-loop
-shared-slice-read-if1 c = omega arith
-
-returns : tie.Need-returns Inv-loop μ-loop
-unfolding lawfulModules
-returns c =
-    let l = c .before .before .before .loop in
-    let g = c .before .before .before .before .args .grid .now in
-    sym (all-but (length g) (λ k. leb (getD g k 0) 2) (l .k) (omega arith) (lt-leb (getD g (l .k) 0) 2 (omega arith)))
+shared-slice-read-value : tie.Need-shared-slice-read-value Inv-loop μ-loop
+shared-slice-read-value c = omega arith
 
 add-k : tie.Need-add-k Inv-loop μ-loop
 add-k c = omega arith
@@ -42,26 +32,19 @@ loop-less c = omega arith
 loop-again : tie.Need-loop-again Inv-loop μ-loop
 loop-again c =
     let l = c .before .before .before .loop in
-    let g = c .before .before .before .before .args .grid .now in
-    (omega arith, below-more _ (l .k) (l .inv .1) (le-leb (getD g (l .k) 0) 2 (omega arith)))
+    let s : ℕ → ℕ = λ i. getD (c .before .before .before .before .args .grid .now) i 0 in (
+      omega arith,
+      ⊎-elim (λ w. w .1 ∙ most-more s (l .k) (l .inv .1) (w .0 .taken))
+          (λ w. w .1 ∙ most-kept s (l .k) (l .inv .1) (w .0 .left)) (c .if1 .came),
+    )
 
-returns-2 : tie.Need-returns-2 Inv-loop μ-loop
+returns : tie.Need-returns Inv-loop μ-loop
 unfolding lawfulModules
-returns-2 c =
+returns c =
     let l = c .before .loop in
     let g = c .before .before .args .grid .now in
-    sym (true-of _ (all-of (length g) (λ k. leb (getD g k 0) 2) (λ i h. holds (l .inv .1 i (omega arith)))))
+    let end : l .k ≡ length g = omega arith in
+    ap (λ m. leb m _) (l .inv .1 ∙ ap (most (λ i. getD g i 0)) end) ∙ most-leb (λ i. getD g i 0) (length g) _
 
 pub all-lawful-spec : {M : Type 1} → statement M
-all-lawful-spec =
-    tie.close
-    (tie.spec
-    Inv-loop
-    μ-loop
-    loop-holds
-    shared-slice-read-if1
-    returns
-    add-k
-    loop-less
-    loop-again
-    returns-2)
+all-lawful-spec = tie.close (tie.spec Inv-loop μ-loop loop-holds shared-slice-read-value add-k loop-less loop-again returns)

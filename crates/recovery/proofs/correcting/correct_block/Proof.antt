@@ -99,10 +99,13 @@ returns c =
       r .read-block .ensures .0,
       (
         r .read-block .ensures .1,
-        corrected-by (wordSize L) (words f L - D) ws (flatMarked (wordSize L) D ws (blockMarksOf f L u))
-            (block-lawful f L D u (a .pre .0) (a .pre .1 .0 .1) (a .pre .1 .0 .2)) buffer (fixed .correct .last .1 .1 .1 .1 .0) (fixed .correct .result)
-            (a .pre .1 .1 .1 .1 ∙ length-block-of f L u)
-            (fixed .correct .ensures .0 ∙ ap (λ r. r .number) same) (fixed .correct .ensures .1 ∙ ap (λ r. r .words) same),
+        (
+          marks,
+          corrected-by (wordSize L) (words f L - D) ws (flatMarked (wordSize L) D ws (blockMarksOf f L u))
+              (block-lawful f L D u (a .pre .0) (a .pre .1 .0 .1) (a .pre .1 .0 .2)) buffer (fixed .correct .last .1 .1 .1 .1 .0) (fixed .correct .result)
+              (a .pre .1 .1 .1 .1 ∙ length-block-of f L u)
+              (fixed .correct .ensures .0 ∙ ap (λ r. r .number) same) (fixed .correct .ensures .1 ∙ ap (λ r. r .words) same),
+        ),
       ),
     )
 

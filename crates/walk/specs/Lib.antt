@@ -1,0 +1,12 @@
+pub mod Rooms
+pub mod Counts
+pub mod MessageLength
+pub mod Walk
+pub mod Saying
+pub mod Upright
+pub mod BlockLaws
+pub mod GridLaws
+pub mod UprightLaws
+pub mod Ends
+pub mod Met
+pub mod BlockIn
