@@ -25,8 +25,8 @@ refused k buffer =
     record { answer = record { number = k; length = 0; shape = 0; position = 0; unread = 0; wrong = 0 }; message = buffer }
 
 module _ (buffer : List ℕ) (w : Walk) where
-  -- a message of n bytes: "The first bytes of the message buffer are the message; the rest keep their bytes". The two counts are "words with
-  -- an unread module, and fully read words that differ from the block found"
+  -- a message of n bytes: "The first bytes of the message buffer are the message; the rest keep their bytes". The two counts: "words with an
+  -- unread module, and fully read words that differ from the block found"
   abbrev pub delivered : Layout → ℕ → Result
   delivered l n =
       record {
@@ -42,17 +42,14 @@ module _ (buffer : List ℕ) (w : Walk) where
         message = w .text ++ drop n buffer;
       }
 
-  abbrev refusal : Result
-  refusal = refused (numberOf (w .outcome)) buffer
-
-  -- 21: "message buffer too short"
+  -- by the number of each outcome; 21: "message buffer too short"
   abbrev pub answerBy : Outcome → Result
   answerBy (Says l n) = cond (leb n (length buffer)) (delivered l n) (refused 21 buffer)
-  answerBy (Refused k) = refusal
-  answerBy (Unplaced best positions) = refusal
-  answerBy (Unlawful failed) = refusal
-  answerBy (Uncorrected e K) = refusal
-  answerBy (Faulty k bit) = refusal
+  answerBy (Refused k) = refused (numberOf (Refused k)) buffer
+  answerBy (Unplaced best positions) = refused (numberOf (Unplaced best positions)) buffer
+  answerBy (Unlawful failed) = refused (numberOf (Unlawful failed)) buffer
+  answerBy (Uncorrected e K) = refused (numberOf (Uncorrected e K)) buffer
+  answerBy (Faulty k bit) = refused (numberOf (Faulty k bit)) buffer
 
   abbrev pub answerOf : Result
   answerOf = answerBy (w .outcome)

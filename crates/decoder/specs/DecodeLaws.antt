@@ -1,11 +1,10 @@
--- The decoder's answer stage by stage: what it is where the walk ends in a message, and where it ends in a refusal.
+-- The decoder's answer by how the walk ends: a refusal's number, or the message if it has room.
 -- Assumes nothing.
-use mathlib.Core.Path.{_≡_, refl, sym, ap, ap₂, _∙_, subst}
+use mathlib.Core.Path.{_≡_, refl, ap, ap₂, _∙_}
 use mathlib.Core.Logic.{_≢_}
 use mathlib.Core.Bool.{Bool, cond}
 use mathlib.Core.List.{List, _++_}
 use Prim.Native.Nat.{ℕ, _≤_, _<_}
-use lib.Dec.{leb}
 use lib.ListN.{length, drop}
 use borrow.Author.Tests.{le-leb, lt-leb}
 use Rattle.block_code.specs.Nearest.{differ}
@@ -16,15 +15,15 @@ use Rattle.recovery.specs.Stages.{blockWordsIn, unreadWords, wrongWords}
 use Rattle.walk.specs.declared.Layout.{Layout}
 use Rattle.walk.specs.declared.Outcome.{Outcome}
 use Rattle.walk.specs.declared.Outcome.the-variants.{Refused, Unplaced, Unlawful, Uncorrected, Faulty, Says}
-use Rattle.walk.specs.Saying as saying
-use Rattle.walk.specs.Walk.{Walk, numberOf, ended, streamWalk, layoutOf, unreadIn, walkOf}
+use Rattle.walk.specs.Saying.{SaysMessage}
+use Rattle.walk.specs.Walk.{Walk, numberOf, streamWalk, layoutOf, unreadIn}
 use Rattle.walk.specs.Ends.{Message, message-walk}
 use Rattle.walk.specs.BlockIn.{unread-in, wrong-in}
 use Rattle.decoder.specs.Decode.{Result, refused, delivered, answerBy, answerOf, decodeOf}
 
 -- an outcome that says no message is refused by its number
 pub no-message : (buffer : List ℕ) (w : Walk) (o : Outcome) → ((l : Layout) (n : ℕ) → o ≢ Says l n)
-    → answerBy buffer w o ≡ refused (numberOf (w .outcome)) buffer
+    → answerBy buffer w o ≡ refused (numberOf o) buffer
 no-message buffer w (Says l n) h = absurd (h l n refl)
 no-message buffer w (Refused k) h = refl
 no-message buffer w (Unplaced best positions) h = refl
@@ -33,7 +32,7 @@ no-message buffer w (Uncorrected e K) h = refl
 no-message buffer w (Faulty k bit) h = refl
 
 -- the room decides between the message and 21
-module _ (buffer : List ℕ) (l : Layout) (received unread found : List ℕ) {r : items.Reading} {n : ℕ} (s : saying.Says r n) where
+module _ (buffer : List ℕ) (l : Layout) (received unread found : List ℕ) {r : items.Reading} {n : ℕ} (s : SaysMessage r n) where
   abbrev said : Walk
   said = record { outcome = Says l n; received = received; unread = unread; found = found; text = s .text }
 
@@ -55,7 +54,8 @@ module _ (buffer : List ℕ) (l : Layout) (received unread found : List ℕ) {r 
 module _ (g : List ℕ) (n : ℕ) (buffer : List ℕ) where
   -- THE LAW of reading back: where every stage passes and the message has room, the answer is that message, with the counts of the grid
   pub message-read : {f : Bool} {L p D : ℕ} {found text : List ℕ}
-      → Message g n (layoutOf f L p D) (length text) (blockWordsIn f L p g) (unreadIn f L p g) found text → length text ≤ length buffer
+      → Message g n (layoutOf f L p D) (length text) (blockWordsIn f L p g) (unreadIn f L p g) found text
+      → length text ≤ length buffer
       → decodeOf g n buffer
       ≡ record {
         answer =
@@ -74,7 +74,7 @@ module _ (g : List ℕ) (n : ℕ) (buffer : List ℕ) where
       ap (answerOf buffer) (message-walk g n m)
       ∙ ap (λ b. cond b (with (code.unread (unreadIn f L p g)) (differ (blockWordsIn f L p g) (unreadIn f L p g) found)) (refused 21 buffer))
       (le-leb (length text) (length buffer) room)
-      ∙ ap₂ with (unread-in f L D p g) (wrong-in f L D p g found)
+      ∙ ap₂ with (unread-in f L p g) (wrong-in f L p g found)
     where
       with : ℕ → ℕ → Result
       with x y =

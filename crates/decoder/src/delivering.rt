@@ -9,12 +9,11 @@ use walk::grid;
 ghost use mathlib.Core.Path.{_≡_};
 ghost use mathlib.Core.List.{[]};
 ghost use Prim.Native.Nat.{_≤_, _<_};
-ghost use lib.ListN.{length, take};
-ghost use Rattle.stream.specs.Items as items;
+ghost use lib.ListN.{length};
 ghost use Rattle.symbol.specs.Shapes as shape;
-ghost use Rattle.walk.specs.Walk.{numberOf, streamWalk};
+ghost use Rattle.walk.specs.Walk.{numberOf, readingOf, streamWalk};
 ghost use Rattle.walk.specs.Rooms.{Rooms};
-ghost use Rattle.walk.specs.Saying.{Says};
+ghost use Rattle.walk.specs.Saying.{SaysMessage};
 ghost use Rattle.decoder.specs.Decode as spec;
 
 pub fn refused(number: u32) -> Decoded
@@ -67,12 +66,11 @@ fn deliver(
     requires { ⌜ shape.Shaped (layout .full) (layout .layers) ⌝
         ∗ ⌜ (layout .position < 8) × (layout .«data_words» ≤ length (now found)) × (length (now found) ≤ 1664) ⌝ }
     requires { ⌜ (length (now received) ≡ length (now found)) × (length (now unread) ≡ length (now found)) ⌝ }
-    requires { ⌜ Says (items.judge (shape.wordSize (layout .layers)) (take (layout .«data_words») (now found))) bytes ⌝ }
+    requires { ⌜ SaysMessage (readingOf layout (now found)) bytes ⌝ }
     ensures { λ r. ⌜ r ≡ spec.answerOf (now (message .entry)) (streamWalk layout (now (received .entry)) (now (unread .entry))
-        (now (found .entry)) (items.judge (shape.wordSize (layout .layers)) (take (layout .«data_words») (now (found .entry))))) .answer ⌝ }
+        (now (found .entry)) (readingOf layout (now (found .entry)))) .answer ⌝ }
     ensures { λ _. ⌜ now (message .exit) ≡ spec.answerOf (now (message .entry)) (streamWalk layout (now (received .entry))
-        (now (unread .entry)) (now (found .entry))
-        (items.judge (shape.wordSize (layout .layers)) (take (layout .«data_words») (now (found .entry))))) .message ⌝ }
+        (now (unread .entry)) (now (found .entry)) (readingOf layout (now (found .entry)))) .message ⌝ }
 {
     if message.len() < bytes {
         return refused(21);
@@ -80,7 +78,7 @@ fn deliver(
     let layers = layout.layers;
     let data_words = layout.data_words;
     let words = received.len();
-    let unread_words = counts::count_unread(words, unread);
+    let unread_words = counts::count_marked(words, unread);
     let wrong_words = counts::count_wrong(words, received, unread, found);
     let size = shapes::word_size_of(layers);
     stream_message::write_message(&found[..data_words], size, message);

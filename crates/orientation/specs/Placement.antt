@@ -44,7 +44,7 @@ pub record Tie (f : Bool) (n : ℕ) (g : List ℕ) : Type 0 where
   pub positions : (p < 8) × (q < 8) × (q ≢ p)
   pub best : (matches f n g p ≡ bestMatches f n g) × (matches f n g q ≡ bestMatches f n g)
 
--- the others of the first m positions have fewer matches than p, or one hasn't
+-- every other of the first m positions has fewer matches than p, or one has at least as many
 abbrev Rivals : (ℕ → ℕ) → ℕ → ℕ → Type 0
 Rivals s p m = ((q : ℕ) → q < m → q ≢ p → s q < s p) ⊎ ((q : ℕ) × (q < m) × (q ≢ p) × (s p ≤ s q))
 

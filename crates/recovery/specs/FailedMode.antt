@@ -1,11 +1,10 @@
 -- What it means that a condition on the mode message fails (number 16): 1 and 3 name the side's, 2 and 3 name D's.
 -- Assumes nothing.
-use mathlib.Core.Path.{_≡_, refl, sym, ap, ap₂, _∙_}
+use mathlib.Core.Path.{_≡_, refl, sym, _∙_}
 use mathlib.Core.Bool.{Bool, true, false, cond, _&&_}
 use Prim.Native.Nat.{ℕ, _+_, _≤_, _<_}
-use native.Mathlib.Omega.{arith}
 use lib.Dec.{eqb, leb}
-use borrow.Author.Tests.{eqb-true, eqb-false, leb-true, leb-false}
+use borrow.Author.Tests.{eq-eqb, ne-eqb, eqb-true, eqb-false, leb-true, leb-false}
 use Rattle.symbol.specs.Shapes.{side, words}
 use Rattle.recovery.specs.Stages.{lawfulMode, sideFailed, wordsFailed, failedMode}
 
@@ -28,22 +27,18 @@ module _ (f : Bool) (n L D : ℕ) where
       go false false p q = both-fail (eqb-false _ _ p) (leb-false _ _ q)
 
   -- no condition fails exactly where the mode message is lawful
-  pub failed-none : {k : ℕ} → k ≡ failedMode f n L D → k ≡ 0 → lawfulMode f n L D ≡ true
+  lawful-is : lawfulMode f n L D ≡ eqb (failedMode f n L D) 0
   unfolding lawfulMode failedMode sideFailed wordsFailed
-  failed-none {k} e z = go (eqb (side f L) n) (leb (D + 3) (words f L)) (sym e ∙ z)
+  lawful-is = go (eqb (side f L) n) (leb (D + 3) (words f L))
     where
-      go : (a b : Bool) → cond a 0 1 + cond b 0 2 ≡ 0 → a && b ≡ true
-      go true true h = refl
-      go false true h = absurd (omega arith)
-      go true false h = absurd (omega arith)
-      go false false h = absurd (omega arith)
+      go : (a b : Bool) → a && b ≡ eqb (cond a 0 1 + cond b 0 2) 0
+      go true true = refl
+      go false true = refl
+      go true false = refl
+      go false false = refl
+
+  pub failed-none : {k : ℕ} → k ≡ failedMode f n L D → k ≡ 0 → lawfulMode f n L D ≡ true
+  failed-none e z = lawful-is ∙ eq-eqb (failedMode f n L D) 0 (sym e ∙ z)
 
   pub failed-some : {k : ℕ} → k ≡ failedMode f n L D → (k ≡ 0 → ⊥) → lawfulMode f n L D ≡ false
-  unfolding lawfulMode failedMode sideFailed wordsFailed
-  failed-some {k} e z = go (eqb (side f L) n) (leb (D + 3) (words f L)) (λ h. z (e ∙ h))
-    where
-      go : (a b : Bool) → (cond a 0 1 + cond b 0 2 ≡ 0 → ⊥) → a && b ≡ false
-      go true true h = absurd (h refl)
-      go false true h = refl
-      go true false h = refl
-      go false false h = refl
+  failed-some e z = lawful-is ∙ ne-eqb (failedMode f n L D) 0 (λ h. z (e ∙ h))

@@ -51,6 +51,8 @@ wordsFailed f L D = cond (leb (D + 3) (words f L)) 0 2
 unfoldable pub failedMode : Bool → ℕ → ℕ → ℕ → ℕ
 failedMode f n L D = sideFailed f n L + wordsFailed f L D
 
+-- The block's stage word by word, as demand 3 takes it; walk has it over lists of words, and its `BlockIn` says that it is the same
+
 unfoldable pub blockWordsIn : Bool → ℕ → ℕ → List ℕ → List ℕ
 blockWordsIn f L p g = tabulate (blockWord f L p g) (words f L)
 

@@ -20,7 +20,7 @@ use Rattle.walk.specs.Counts.{unread-sampled, wrong-sampled}
 use Rattle.walk.specs.Walk.{marksOf, nearestBlock, layoutOf, unreadIn}
 
 module _ (f : Bool) (L D p : ℕ) (g : List ℕ) where
-  pub marks-in : marksOf (layoutOf f L p D) (blockWordsIn f L p g) (unreadIn f L p g) ≡ blockMarksIn f L D p g
+  marks-in : marksOf (layoutOf f L p D) (blockWordsIn f L p g) (unreadIn f L p g) ≡ blockMarksIn f L D p g
   unfolding flatMarked blockWordsIn unreadIn blockMarksIn blockMark
   marks-in =
       ap (tabulate (λ w. cond (ltb w D && flat (wordSize L) (getD ws w 0)) 1 (getD ms w 0))) (length-tabulate _ (words f L))
@@ -38,6 +38,7 @@ module _ (f : Bool) (L D p : ℕ) (g : List ℕ) where
   unfolding blockIn
   nearest-in = ap (nearest (sizeOf (wordSize L)) (words f L - D) (words f L - D) (blockWordsIn f L p g)) marks-in
 
+module _ (f : Bool) (L p : ℕ) (g : List ℕ) where
   pub unread-in : code.unread (unreadIn f L p g) ≡ unreadWords f L p g
   unfolding unreadIn
   unread-in = unread-sampled f L p g

@@ -22,16 +22,16 @@ abbrev pub isWrong : List ℕ → List ℕ → List ℕ → ℕ → Bool
 isWrong received marks found w = not (marked marks w) && not (eqb (getD found w 0) (getD received w 0))
 
 -- among the first n words
-unfoldable pub unreadOf : ℕ → List ℕ → ℕ
-unreadOf n marks = count n (marked marks)
+unfoldable pub markedOf : ℕ → List ℕ → ℕ
+markedOf n marks = count n (marked marks)
 
 unfoldable pub wrongOf : ℕ → List ℕ → List ℕ → List ℕ → ℕ
 wrongOf n received marks found = count n (isWrong received marks found)
 
 -- among all
-pub unread-all : (marks : List ℕ) → unreadOf (length marks) marks ≡ code.unread marks
-unfolding unreadOf
-unread-all marks = refl
+pub marked-all : (marks : List ℕ) → markedOf (length marks) marks ≡ code.unread marks
+unfolding markedOf
+marked-all marks = refl
 
 pub wrong-all : (received marks found : List ℕ) → wrongOf (length received) received marks found ≡ differ received marks found
 unfolding wrongOf

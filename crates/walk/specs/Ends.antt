@@ -2,16 +2,17 @@
 -- else leads to it.
 -- Assumes nothing.
 use mathlib.Core.Path.{_≡_, refl, sym, ap, ap₂, _∙_, subst}
+use mathlib.Core.Logic.{_⊎_, inl, inr, ⊎-elim}
 use mathlib.Core.Bool.{Bool, true, false, not, cond}
 use mathlib.Core.List.{List}
 use mathlib.Core.Option.{Option, none, some}
-use Prim.Native.Nat.{ℕ, _+_, _*_, _-_, _≤_, _<_}
+use Prim.Native.Nat.{ℕ, _+_, _*_, _≤_, _<_}
+use native.Mathlib.Omega.{arith}
 use lib.Dec.{eqb}
-use lib.ListN.{length, take}
+use lib.ListN.{length}
 use borrow.Author.Tests.{eqb-true, eqb-false}
-use Rattle.block_code.specs.Nearest as code
 use Rattle.stream.specs.Items as items
-use Rattle.symbol.specs.Shapes.{wordSize, words, side, Shaped}
+use Rattle.symbol.specs.Shapes.{words, side, Shaped}
 use Rattle.orientation.specs.Modules.{lawfulModules}
 use Rattle.orientation.specs.Sides.{isSide}
 use Rattle.orientation.specs.Family.{looksFull}
@@ -24,7 +25,10 @@ use Rattle.recovery.specs.LawfulWords.{found-nibbles}
 use Rattle.walk.specs.declared.Layout.{Layout}
 use Rattle.walk.specs.declared.Outcome.{Outcome}
 use Rattle.walk.specs.declared.Outcome.the-variants.{Refused, Unplaced, Unlawful, Uncorrected, Faulty, Says}
-use Rattle.walk.specs.Walk.{Walk, ended, marksOf, streamWalk, foundWalk, nearestBlock, blockWalk, layoutOf, unreadIn, shapeWalk, modeWalk, placeWalk, gridWalk, walkOf}
+use Rattle.walk.specs.Walk.{numberOf, Walk, ended, readingOf, checks, erasures, nearestBlock, streamWalk, foundWalk}
+use Rattle.walk.specs.Walk.{blockWalk, lawfulWalk, layoutOf, unreadIn, shapeWalk, modeWalk, placeWalk, gridWalk, walkOf}
+use Rattle.walk.specs.Faults.{refusal}
+use Rattle.walk.specs.BlockLaws.{walk-lawful, walk-unlawful}
 use Rattle.walk.specs.Upright.{lawful-parts}
 use Rattle.walk.specs.GridLaws.{side-refused, length-refused, module-refused, grid-taken}
 
@@ -42,7 +46,7 @@ module _ (g : List ℕ) (n : ℕ) where
     pub placed : position f n g ≡ some p
 
   -- a grid whose mode message was read: the corrected mode words, and what they say
-  pub record Moded (l : Layout) : Type 0 where
+  pub record ModeRead (l : Layout) : Type 0 where
     pub at : Placed (l .full) (l .position)
     pub mode : List ℕ
     pub corrected : modeIn (l .full) n (l .position) g ≡ some mode
@@ -51,7 +55,7 @@ module _ (g : List ℕ) (n : ℕ) where
 
   -- a grid of a lawful shape, with the words and unread marks at its block's places
   pub record Sampled (l : Layout) (received unread : List ℕ) : Type 0 where
-    pub moded : Moded l
+    pub moded : ModeRead l
     pub lawful : lawfulMode (l .full) n (l .layers) (l .«data_words») ≡ true
     pub received-is : blockWordsIn (l .full) (l .layers) (l .position) g ≡ received
     pub unread-is : unreadIn (l .full) (l .layers) (l .position) g ≡ unread
@@ -75,19 +79,19 @@ module _ (g : List ℕ) (n : ℕ) where
   -- 16
   pub record NoShape (failed : ℕ) : Type 0 where
     pub layout : Layout
-    pub moded : Moded layout
+    pub moded : ModeRead layout
     pub unlawful : lawfulMode (layout .full) n (layout .layers) (layout .«data_words») ≡ false
     pub failed-is : failedMode (layout .full) n (layout .layers) (layout .«data_words») ≡ failed
 
   -- 17
-  pub record NoBlock (erasures checks : ℕ) : Type 0 where
+  pub record NoBlock (e K : ℕ) : Type 0 where
     pub layout : Layout
     pub received : List ℕ
     pub unread : List ℕ
     pub sampled : Sampled layout received unread
     pub no-block : nearestBlock layout received unread ≡ none
-    pub erasures-are : code.unread (marksOf layout received unread) ≡ erasures
-    pub checks-are : words (layout .full) (layout .layers) - layout .«data_words» ≡ checks
+    pub erasures-are : erasures layout received unread ≡ e
+    pub checks-are : checks layout received unread ≡ K
 
   -- 18, 19, 20
   pub record NoMessage (number bit : ℕ) : Type 0 where
@@ -97,13 +101,13 @@ module _ (g : List ℕ) (n : ℕ) where
     pub sampled : Sampled layout received unread
     pub found : List ℕ
     pub block-is : nearestBlock layout received unread ≡ some found
-    pub refused-at : items.judge (wordSize (layout .layers)) (take (layout .«data_words») found) ≡ items.refused number bit
+    pub refused-at : readingOf layout found ≡ items.refused number bit
 
   -- a message, with the words that it was read from
   pub record Message (l : Layout) (bytes : ℕ) (received unread found text : List ℕ) : Type 0 where
     pub sampled : Sampled l received unread
     pub block-is : nearestBlock l received unread ≡ some found
-    pub message-is : items.judge (wordSize (l .layers)) (take (l .«data_words») found) ≡ items.message text
+    pub message-is : readingOf l found ≡ items.message text
     pub size : length text ≡ bytes
 
   abbrev pub EndsIn : Walk → Outcome → Type 0
@@ -121,7 +125,7 @@ module _ (g : List ℕ) (n : ℕ) where
 
   module _ (l : Layout) (received unread : List ℕ) (s : Sampled l received unread) where
     stream-ends : (found : List ℕ) → nearestBlock l received unread ≡ some found → (r : items.Reading)
-        → items.judge (wordSize (l .layers)) (take (l .«data_words») found) ≡ r → Ends (streamWalk l received unread found r)
+        → readingOf l found ≡ r → Ends (streamWalk l received unread found r)
     stream-ends found e (items.message text) j = record { sampled = s; block-is = e; message-is = j; size = refl }
     stream-ends found e (items.refused k bit) j =
         record { layout = l; received = received; unread = unread; sampled = s; found = found; block-is = e; refused-at = j }
@@ -129,22 +133,29 @@ module _ (g : List ℕ) (n : ℕ) where
     found-ends : (o : Option (List ℕ)) → nearestBlock l received unread ≡ o → Ends (foundWalk l received unread o)
     found-ends none e =
         record { layout = l; received = received; unread = unread; sampled = s; no-block = e; erasures-are = refl; checks-are = refl }
-    found-ends (some found) e = stream-ends found e (items.judge (wordSize (l .layers)) (take (l .«data_words») found)) refl
+    found-ends (some found) e = stream-ends found e (readingOf l found) refl
 
     block-ends : Ends (blockWalk l received unread)
     unfolding blockWalk
     block-ends = found-ends (nearestBlock l received unread) refl
 
-  shape-ends : (f : Bool) (p L D : ℕ) → Moded (layoutOf f L p D) → Ends (shapeWalk g f n p L D)
-  unfolding shapeWalk
+  shape-ends : (f : Bool) (p L D : ℕ) → ModeRead (layoutOf f L p D) → Ends (shapeWalk g f n p L D)
   shape-ends f p L D m = go (lawfulMode f n L D) refl
     where
-      go : (b : Bool) → lawfulMode f n L D ≡ b
-          → Ends (cond b (blockWalk (layoutOf f L p D) (blockWordsIn f L p g) (unreadIn f L p g)) (ended (Unlawful (failedMode f n L D))))
+      l : Layout
+      l = layoutOf f L p D
+
+      r : List ℕ
+      r = blockWordsIn f L p g
+
+      u : List ℕ
+      u = unreadIn f L p g
+
+      go : (b : Bool) → lawfulMode f n L D ≡ b → Ends (lawfulWalk l r u n)
       go true e =
-          block-ends (layoutOf f L p D) (blockWordsIn f L p g) (unreadIn f L p g)
-          (record { moded = m; lawful = e; received-is = refl; unread-is = refl })
-      go false e = record { layout = layoutOf f L p D; moded = m; unlawful = e; failed-is = refl }
+          subst Ends (sym (walk-lawful l r u n e))
+          (block-ends l r u (record { moded = m; lawful = e; received-is = refl; unread-is = refl }))
+      go false e = subst Ends (sym (walk-unlawful l r u n e)) (record { layout = l; moded = m; unlawful = e; failed-is = refl })
 
   mode-ends : (f : Bool) (p : ℕ) → Placed f p → (o : Option (List ℕ)) → modeIn f n p g ≡ o → Ends (modeWalk g f n p o)
   mode-ends f p a none e = no-mode f p a e
@@ -189,19 +200,16 @@ module _ (g : List ℕ) (n : ℕ) where
       ∙ ap (λ b. placeWalk g b n (position b n g)) (a .judged)
       ∙ ap (placeWalk g f n) (a .placed)
 
-  moded-walk : {l : Layout} → Moded l → walkOf g n ≡ shapeWalk g (l .full) n (l .position) (l .layers) (l .«data_words»)
+  moded-walk : {l : Layout} → ModeRead l → walkOf g n ≡ shapeWalk g (l .full) n (l .position) (l .layers) (l .«data_words»)
   moded-walk {l} m =
       placed-walk (m .at)
       ∙ ap (modeWalk g (l .full) n (l .position)) (m .corrected)
       ∙ ap₂ (shapeWalk g (l .full) n (l .position)) (m .layers-said) (m .words-said)
 
-  pub sampled-walk : {l : Layout} {received unread : List ℕ} → Sampled l received unread → walkOf g n ≡ foundWalk l received unread (nearestBlock l received unread)
-  unfolding shapeWalk blockWalk
-  sampled-walk {l} s =
-      moded-walk (s .moded)
-      ∙ ap (λ b. cond b (blockWalk l (blockWordsIn (l .full) (l .layers) (l .position) g) (unreadIn (l .full) (l .layers) (l .position) g))
-      (ended (Unlawful (failedMode (l .full) n (l .layers) (l .«data_words»))))) (s .lawful)
-      ∙ ap₂ (λ r u. foundWalk l r u (nearestBlock l r u)) (s .received-is) (s .unread-is)
+  pub sampled-walk : {l : Layout} {received unread : List ℕ} → Sampled l received unread
+      → walkOf g n ≡ foundWalk l received unread (nearestBlock l received unread)
+  unfolding blockWalk
+  sampled-walk {l} s = moded-walk (s .moded) ∙ walk-lawful l _ _ n (s .lawful) ∙ ap₂ (blockWalk l) (s .received-is) (s .unread-is)
 
   pub plain-walk : {k : ℕ} → Plain k → walkOf g n ≡ ended (Refused k)
   plain-walk (no-side s) = side-refused g n s
@@ -217,13 +225,8 @@ module _ (g : List ℕ) (n : ℕ) where
       ∙ ap₂ (λ b p. ended (Unplaced b p)) (u .best-is) (u .positions-are)
 
   pub unlawful-walk : {failed : ℕ} → NoShape failed → walkOf g n ≡ ended (Unlawful failed)
-  unfolding shapeWalk
   unlawful-walk u =
-      let l = u .layout in
-      moded-walk (u .moded)
-      ∙ ap (λ b. cond b (blockWalk l (blockWordsIn (l .full) (l .layers) (l .position) g) (unreadIn (l .full) (l .layers) (l .position) g))
-      (ended (Unlawful (failedMode (l .full) n (l .layers) (l .«data_words»))))) (u .unlawful)
-      ∙ ap (λ k. ended (Unlawful k)) (u .failed-is)
+      moded-walk (u .moded) ∙ walk-unlawful (u .layout) _ _ n (u .unlawful) ∙ ap (λ k. ended (Unlawful k)) (u .failed-is)
 
   pub uncorrected-walk : {e K : ℕ} → NoBlock e K → walkOf g n ≡ ended (Uncorrected e K)
   uncorrected-walk u =
@@ -241,13 +244,36 @@ module _ (g : List ℕ) (n : ℕ) where
       sampled-walk (m .sampled) ∙ ap (foundWalk l received unread) (m .block-is) ∙ ap (streamWalk l received unread found) (m .message-is)
       ∙ ap (λ k. record { outcome = Says l k; received = received; unread = unread; found = found; text = text }) (m .size)
 
+  -- What that gives of a number
+
+  -- 18 is of the whole block and goes with bit 0
+  pub faulty-number : {k bit : ℕ} → NoMessage k bit → ((k ≡ 18) × (bit ≡ 0)) ⊎ (k ≡ 19) ⊎ (k ≡ 20)
+  faulty-number m = ⊎-elim inl (λ x. inr (x .0)) (refusal _ _ (m .refused-at))
+
+  plain-number : {k : ℕ} → Plain k → 11 ≤ k
+  plain-number (no-side s) = omega arith
+  plain-number (no-size s z) = omega arith
+  plain-number (no-module s z m) = omega arith
+  plain-number (no-mode f p a e) = omega arith
+
+  -- "0 is success": it comes with a message alone
+  pub only-message : (w : Walk) (o : Outcome) → EndsIn w o → numberOf o ≡ 0 → (l : Layout) × (bytes : ℕ) × (o ≡ Says l bytes)
+  only-message w (Says l bytes) h e = (l, bytes, refl)
+  only-message w (Refused k) h e = absurd (omega (arith, plain-number h))
+  only-message w (Unplaced best positions) h e = absurd (omega arith)
+  only-message w (Unlawful failed) h e = absurd (omega arith)
+  only-message w (Uncorrected x K) h e = absurd (omega arith)
+  only-message w (Faulty k bit) h e =
+      ⊎-elim (λ x. absurd (omega (arith, x .0))) (⊎-elim (λ x. absurd (omega arith)) (λ x. absurd (omega arith))) (faulty-number h)
+
   -- What that gives of a layout
 
-  pub moded-shaped : {l : Layout} → Moded l → Shaped (l .full) (l .layers)
+  pub moded-shaped : {l : Layout} → ModeRead l → Shaped (l .full) (l .layers)
   unfolding modeIn
-  moded-shaped {l} m = subst (Shaped (l .full)) (m .layers-said) (said-shaped (l .full) (m .mode) (found-nibbles _ _ _ (m .mode) (m .corrected)))
+  moded-shaped {l} m =
+      subst (Shaped (l .full)) (m .layers-said) (said-shaped (l .full) (m .mode) (found-nibbles _ _ _ (m .mode) (m .corrected)))
 
-  pub moded-position : {l : Layout} → Moded l → l .position < 8
+  pub moded-position : {l : Layout} → ModeRead l → l .position < 8
   moded-position {l} m = found-best (l .full) n g (m .at .placed) .lawful
 
   pub sampled-checks : {l : Layout} {received unread : List ℕ} → Sampled l received unread

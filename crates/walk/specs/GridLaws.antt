@@ -1,12 +1,11 @@
 -- The stages before the mode words, as the code meets them: a placement, and the numbers 11 to 14 in their order.
 -- Assumes nothing.
-use mathlib.Core.Path.{_≡_, refl, sym, ap, ap₂, _∙_}
+use mathlib.Core.Path.{_≡_, refl, sym, ap, _∙_, subst}
 use mathlib.Core.Logic.{_≢_}
 use mathlib.Core.Bool.{Bool, true, false}
 use mathlib.Core.List.{List}
 use mathlib.Core.Option.{Option, none, some}
 use Prim.Native.Nat.{ℕ, _*_}
-use native.Mathlib.Omega.{arith}
 use lib.ListN.{length}
 use borrow.Author.Tests.{eq-eqb, ne-eqb}
 use Rattle.orientation.specs.declared.position.Placement.{Placement}
@@ -16,49 +15,35 @@ use Rattle.orientation.specs.Sides.{isSide}
 use Rattle.orientation.specs.Family.{looksFull}
 use Rattle.orientation.specs.Position.{position}
 use Rattle.orientation.specs.Placement.{placementFor, placementOf}
-use Rattle.recovery.specs.Stages.{modeIn}
 use Rattle.walk.specs.declared.Outcome.the-variants.{Refused, Unplaced}
-use Rattle.walk.specs.Walk.{ended, modeWalk, placeWalk, gridWalk, walkOf}
+use Rattle.walk.specs.Walk.{ended, placeWalk, gridWalk, walkOf}
 
-kind : Placement → ℕ
-kind (At p) = 0
-kind (Nowhere best positions) = 1
+module _ (g : List ℕ) (n : ℕ) (f : Bool) where
+  -- what a placement says of the grid
+  abbrev PlacedBy : Placement → Type 0
+  PlacedBy (At p) = position f n g ≡ some p
+  PlacedBy (Nowhere best positions) = placeWalk g f n (position f n g) ≡ ended (Unplaced best positions)
 
-positionOf : Placement → ℕ
-positionOf (At p) = p
-positionOf (Nowhere best positions) = 0
+  placed-by : PlacedBy (placementOf f n g)
+  placed-by = go (position f n g) refl
+    where
+      go : (o : Option ℕ) → position f n g ≡ o → PlacedBy (placementFor f n g o)
+      go none e = ap (placeWalk g f n) e
+      go (some p) e = e
 
-unplacedBy : Placement → ℕ
-unplacedBy (At p) = 0
-unplacedBy (Nowhere best positions) = best
-
-positionsOf : Placement → ℕ
-positionsOf (At p) = 0
-positionsOf (Nowhere best positions) = positions
-
-module _ (g : List ℕ) (n : ℕ) {f : Bool} (family : f ≡ looksFull n g) where
-  grid-is : placeWalk g f n (position f n g) ≡ gridWalk g n
+  grid-is : f ≡ looksFull n g → placeWalk g f n (position f n g) ≡ gridWalk g n
   unfolding gridWalk
-  grid-is = ap (λ b. placeWalk g b n (position b n g)) family
+  grid-is family = ap (λ b. placeWalk g b n (position b n g)) family
 
   pub found-at : {p : ℕ} → placementOf f n g ≡ At p → position f n g ≡ some p
-  unfolding kind positionOf
-  found-at {p} = go (position f n g)
-    where
-      go : (o : Option ℕ) → placementFor f n g o ≡ At p → o ≡ some p
-      go none e = absurd (let z : _≡_ {A = ℕ} 1 0 = ap kind e in omega arith)
-      go (some q) e = ap some (ap positionOf e)
+  found-at e = subst PlacedBy e placed-by
 
-  pub grid-placed : {p : ℕ} → placementOf f n g ≡ At p → modeWalk g f n p (modeIn f n p g) ≡ gridWalk g n
-  grid-placed e = sym (ap (placeWalk g f n) (found-at e)) ∙ grid-is
+  pub grid-placed : {p : ℕ} → f ≡ looksFull n g → placementOf f n g ≡ At p → placeWalk g f n (some p) ≡ gridWalk g n
+  grid-placed family e = sym (ap (placeWalk g f n) (found-at e)) ∙ grid-is family
 
-  pub grid-unplaced : {best positions : ℕ} → placementOf f n g ≡ Nowhere best positions → ended (Unplaced best positions) ≡ gridWalk g n
-  unfolding kind unplacedBy positionsOf
-  grid-unplaced {best} {positions} e = sym (go (position f n g) e) ∙ grid-is
-    where
-      go : (o : Option ℕ) → placementFor f n g o ≡ Nowhere best positions → placeWalk g f n o ≡ ended (Unplaced best positions)
-      go none e = ap₂ (λ x y. ended (Unplaced x y)) (ap unplacedBy e) (ap positionsOf e)
-      go (some q) e = absurd (let z : _≡_ {A = ℕ} 0 1 = ap kind e in omega arith)
+  pub grid-unplaced : {best positions : ℕ} → f ≡ looksFull n g → placementOf f n g ≡ Nowhere best positions
+      → ended (Unplaced best positions) ≡ gridWalk g n
+  grid-unplaced family e = sym (subst PlacedBy e placed-by) ∙ grid-is family
 
 module _ (g : List ℕ) (n : ℕ) where
   pub side-refused : isSide n ≡ false → walkOf g n ≡ ended (Refused 11)

@@ -1,6 +1,7 @@
 pub mod Rooms
 pub mod Counts
 pub mod MessageLength
+pub mod Faults
 pub mod Walk
 pub mod Saying
 pub mod Upright
@@ -8,5 +9,5 @@ pub mod BlockLaws
 pub mod GridLaws
 pub mod UprightLaws
 pub mod Ends
-pub mod Met
+pub mod Fronts
 pub mod BlockIn

@@ -1,11 +1,10 @@
--- A message has no more bytes than its stream has bits, and so a buffer of 19,968 bytes holds every message; nor is an item at fault further
--- on than that.
+-- A message has no more bytes than its stream has bits, and so a buffer of 19,968 bytes holds every message.
 -- Assumes nothing.
 use mathlib.Core.Path.{_≡_, subst}
 use mathlib.Core.Bool.{Bool, true, false, not, cond}
 use mathlib.Core.List.{List, [], _∷_}
 use Prim.Native.Nat.{ℕ, zero, suc, _+_, _-_, _≤_, _<_}
-use native.Mathlib.Nat.{le-refl, mul-le-mul}
+use native.Mathlib.Nat.{mul-le-mul}
 use native.Mathlib.Omega.{arith}
 use lib.ListN.{length, getD, drop, length-append}
 use Rattle.list_laws.specs.Range.{all}
@@ -49,63 +48,6 @@ read-most B (b ∷ l) x zero at s five = stop (stops B (b ∷ l)) (read-most B l
         (cond t (items.message []) (proceed (itemAt s (b ∷ l)) at s (b ∷ l) (λ u t. readFrom B (u - 1) (at + 1) t l)))
     stop true ih = omega arith
     stop false ih = on (itemAt s (b ∷ l)) (item-sound s five (b ∷ l) x) ih
-
--- a refusal's place is no further than the bits reach
-abbrev Placed : ℕ → Reading → Type 0
-Placed n (items.message m) = Unit {0}
-Placed n (items.refused k at) = at ≤ n
-
-prepend-placed : (n : ℕ) (o : List ℕ) (r : Reading) → Placed n r → Placed n (prepend o r)
-prepend-placed n o (items.message m) h = tt
-prepend-placed n o (items.refused x at) h = h
-
-read-placed : (B : ℕ) (l : List ℕ) (k at s : ℕ) → Placed (at + length l) (readFrom B k at s l)
-unfolding readFrom
-read-placed B [] k at s = tt
-read-placed B (b ∷ l) (suc k) at s =
-    subst (λ n. Placed n (readFrom B k (at + 1) s l)) (let e : at + 1 + length l ≡ at + suc (length l) = omega arith in e)
-    (read-placed B l k (at + 1) s)
-read-placed B (b ∷ l) zero at s = stop (stops B (b ∷ l)) (λ k t. read-placed B l k (at + 1) t)
-  where
-    on : (f : Found) → ((k s : ℕ) → Placed (at + 1 + length l) (readFrom B k (at + 1) s l))
-        → Placed (at + length (b ∷ l)) (proceed f at s (b ∷ l) (λ u t. readFrom B (u - 1) (at + 1) t l))
-    on (Whole i u) ih =
-        prepend-placed (at + length (b ∷ l)) (adds i (drop u (b ∷ l))) (readFrom B (u + extra i - 1) (at + 1) (setAfter s i) l)
-        (subst (λ n. Placed n (readFrom B (u + extra i - 1) (at + 1) (setAfter s i) l))
-        (let e : at + 1 + length l ≡ at + suc (length l) = omega arith in e) (ih (u + extra i - 1) (setAfter s i)))
-    on (Fault x) ih = omega arith
-
-    stop : (t : Bool) → ((k s : ℕ) → Placed (at + 1 + length l) (readFrom B k (at + 1) s l))
-        → Placed (at + length (b ∷ l))
-        (cond t (items.message []) (proceed (itemAt s (b ∷ l)) at s (b ∷ l) (λ u t. readFrom B (u - 1) (at + 1) t l)))
-    stop true ih = tt
-    stop false ih = on (itemAt s (b ∷ l)) ih
-
-module _ (B : ℕ) (words : List ℕ) (k at : ℕ) where
-  place-length : judge B words ≡ items.refused k at → at ≤ length (unstuff B words)
-  unfolding judge readItems unstuff
-  place-length e = go (all (length words) (λ i. not (flat B (getD words i 0)))) e
-    where
-      go : (t : Bool) → cond t (readFrom B 0 0 0 (unstuffFrom (B - 1) words)) (items.refused 18 0) ≡ items.refused k at
-          → at ≤ length (unstuffFrom (B - 1) words)
-      go true e =
-          let l = unstuffFrom (B - 1) words in
-          let m : Placed (0 + length l) (items.refused k at) = subst (Placed (0 + length l)) e (read-placed B l 0 0 0) in
-          omega arith
-      go false e =
-          let m : Placed 0 (items.refused k at) = subst (Placed 0) e (le-refl 0) in
-          omega arith
-
-  -- the most words of the largest size
-  pub place-most : judge B words ≡ items.refused k at → length words ≤ 1664 → B ≤ 12 → at ≤ 19968
-  unfolding unstuff
-  place-most e h b =
-      omega (
-        arith,
-        place-length e,
-        unstuff-length (B - 1) words .1,
-        mul-le-mul {n₁ = length words} {m₁ = suc (B - 1)} {n₂ = 1664} {m₂ = 12} h (omega arith),
-      )
 
 module _ (B : ℕ) (words text : List ℕ) where
   pub message-length : judge B words ≡ items.message text → length text ≤ length (unstuff B words)

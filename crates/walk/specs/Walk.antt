@@ -35,8 +35,8 @@ numberOf (Uncorrected e K) = 17
 numberOf (Faulty k bit) = k
 numberOf (Says l n) = 0
 
--- an outcome, and beside one that says a message the words that it was read from: those received, in which an unread module counts as 0, a
--- mark for each that has one, the block found, and the message of its data words
+-- an outcome; and where it says a message the words received, in which an unread module counts as 0, a mark for each that has one, the block
+-- found, and the message of its data words
 pub record Walk : Type 0 where
   pub outcome : Outcome
   pub received : List ℕ
@@ -50,16 +50,26 @@ ended o = record { outcome = o; received = []; unread = []; found = []; text = [
 
 -- From the words of a block
 
+-- 18, 19 and 20: what the data words of a block say
+abbrev pub readingOf : Layout → List ℕ → items.Reading
+readingOf l block = items.judge (wordSize (l .layers)) (take (l .«data_words») block)
+
 module _ (l : Layout) (received unread : List ℕ) where
   -- K
-  abbrev checks : ℕ
+  abbrev pub checks : ℕ
   checks = words (l .full) (l .layers) - l .«data_words»
 
-  -- the marks that the corrector is given
+  -- the marks that the corrector is given, and e
   abbrev pub marksOf : List ℕ
   marksOf = flatMarked (wordSize (l .layers)) (l .«data_words») received unread
 
-  -- 18, 19 and 20: what the corrected data words say
+  abbrev pub erasures : ℕ
+  erasures = code.unread marksOf
+
+  -- the corrected block
+  abbrev pub nearestBlock : Option (List ℕ)
+  nearestBlock = nearest (sizeOf (wordSize (l .layers))) checks checks received marksOf
+
   abbrev pub streamWalk : List ℕ → items.Reading → Walk
   streamWalk found (items.message text) =
       record { outcome = Says l (length text); received = received; unread = unread; found = found; text = text }
@@ -67,15 +77,17 @@ module _ (l : Layout) (received unread : List ℕ) where
 
   -- 17, with e and K
   abbrev pub foundWalk : Option (List ℕ) → Walk
-  foundWalk none = ended (Uncorrected (code.unread marksOf) checks)
-  foundWalk (some found) = streamWalk found (items.judge (wordSize (l .layers)) (take (l .«data_words») found))
-
-  -- the corrected block
-  abbrev pub nearestBlock : Option (List ℕ)
-  nearestBlock = nearest (sizeOf (wordSize (l .layers))) checks checks received marksOf
+  foundWalk none = ended (Uncorrected erasures checks)
+  foundWalk (some found) = streamWalk found (readingOf l found)
 
   unfoldable pub blockWalk : Walk
   blockWalk = foundWalk nearestBlock
+
+  -- 16, with the conditions that fail in a grid of side n
+  unfoldable pub lawfulWalk : ℕ → Walk
+  lawfulWalk n =
+      cond (lawfulMode (l .full) n (l .layers) (l .«data_words»)) blockWalk
+      (ended (Unlawful (failedMode (l .full) n (l .layers) (l .«data_words»))))
 
 -- From a grid
 
@@ -87,11 +99,8 @@ unfoldable pub unreadIn : Bool → ℕ → ℕ → List ℕ → List ℕ
 unreadIn f L p g = tabulate (λ w. unread (wordSize L) (blockModule f L p g w)) (words f L)
 
 module _ (g : List ℕ) where
-  -- 16, with the conditions that fail
-  unfoldable pub shapeWalk : Bool → ℕ → ℕ → ℕ → ℕ → Walk
-  shapeWalk f n p L D =
-      cond (lawfulMode f n L D) (blockWalk (layoutOf f L p D) (blockWordsIn f L p g) (unreadIn f L p g))
-      (ended (Unlawful (failedMode f n L D)))
+  abbrev pub shapeWalk : Bool → ℕ → ℕ → ℕ → ℕ → Walk
+  shapeWalk f n p L D = lawfulWalk (layoutOf f L p D) (blockWordsIn f L p g) (unreadIn f L p g) n
 
   -- 15
   abbrev pub modeWalk : Bool → ℕ → ℕ → Option (List ℕ) → Walk
@@ -114,7 +123,7 @@ walkOf g n =
     (cond (not (eqb (length g) (n * n))) (ended (Refused 12))
     (cond (not (lawfulModules g)) (ended (Refused 13)) (gridWalk g n)))
 
--- What the walk leaves in its buffers: its words stand at their fronts.
+-- What the walk leaves in its work buffers: its words stand at their fronts. Behind them, and after a refusal, the bytes are free.
 pub record Left (w : Walk) (received unread found : List ℕ) : Type 0 where
   pub received-left : take (length (w .received)) received ≡ w .received
   pub unread-left : take (length (w .unread)) unread ≡ w .unread

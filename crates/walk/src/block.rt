@@ -1,7 +1,7 @@
 // From an upright grid to the outcome: the mode message, the block of the shape that it says, and what the block's data words say.
 use crate::Layout;
+use crate::Oriented;
 use crate::Outcome;
-use crate::Seen;
 use crate::counts;
 use crate::mode;
 use crate::mode::Said;
@@ -12,20 +12,19 @@ use stream_reader::message as stream_message;
 use symbol::shapes;
 ghost use mathlib.Core.Path.{_≡_};
 ghost use Prim.Native.Nat.{_*_, _+_, _≤_, _<_};
-ghost use lib.ListN.{length, take};
+ghost use lib.ListN.{length};
 ghost use Rattle.stream.specs.Items as items;
 ghost use Rattle.symbol.specs.Shapes as shape;
 ghost use Rattle.symbol.specs.Drawing.{area};
 ghost use Rattle.sampling.specs.Sampled.{blockWordsOf, blockMarksOf};
-ghost use Rattle.walk.specs.Walk.{blockWalk, Left};
+ghost use Rattle.walk.specs.Walk.{readingOf, blockWalk, Left};
 ghost use Rattle.walk.specs.Rooms.{Rooms};
-ghost use Rattle.walk.specs.Upright.{judgedOf, saidOf, modeOf, walkSaid};
+ghost use Rattle.walk.specs.Upright.{judgedOf, uprightWalk};
 
 // What the data words of a block say: a message's length, or 18, 19 or 20.
 fn judge_block(layout: Layout, found: &[u16]) -> Outcome
     requires { ⌜ (layout .«data_words» ≤ length (now found)) × (length (now found) ≤ 1664) ⌝ }
-    ensures { λ r. ⌜ r ≡ judgedOf layout
-        (items.verdictOf (items.judge (shape.wordSize (layout .layers)) (take (layout .«data_words») (now (found .entry))))) ⌝ }
+    ensures { λ r. ⌜ r ≡ judgedOf layout (items.verdictOf (readingOf layout (now (found .entry)))) ⌝ }
 {
     let data_words = layout.data_words;
     let size = shapes::word_size_of(layout.layers);
@@ -72,29 +71,28 @@ fn walk_block(
     ) {
         return judge_block(layout, found);
     }
-    let erasures = counts::count_unread(marks.len(), marks);
+    let erasures = counts::count_marked(marks.len(), marks);
     Outcome::Uncorrected(erasures, (received.len() - data_words) as u32)
 }
 
-// An upright grid in a known family and position, with room for the words of any shape.
+// The mode message of an upright grid, and then its block, with room for the words of any shape.
 pub fn walk_upright(
-    seen: Seen,
+    oriented: Oriented,
     upright: &[u8],
     received: &mut [u16],
     unread: &mut [u8],
     found: &mut [u16],
 ) -> Outcome
-    requires { ⌜ (2 * shape.core (seen .full) < seen .side) × (seen .side ≤ 151) × (seen .side * seen .side ≤ length (now upright)) ⌝ }
+    requires { ⌜ (2 * shape.core (oriented .full) < oriented .side) × (oriented .side ≤ 151)
+        × (oriented .side * oriented .side ≤ length (now upright)) ⌝ }
     requires { ⌜ Rooms (now received) (now unread) (now found) ⌝ }
-    ensures { λ r. ⌜ r ≡ walkSaid (now (upright .entry)) (seen .full) (seen .side) (seen .position)
-        (saidOf (seen .full) (modeOf (now (upright .entry)) (seen .full) (seen .side))) .outcome ⌝ }
-    ensures { λ _. ⌜ Left (walkSaid (now (upright .entry)) (seen .full) (seen .side) (seen .position)
-        (saidOf (seen .full) (modeOf (now (upright .entry)) (seen .full) (seen .side))))
+    ensures { λ r. ⌜ r ≡ uprightWalk (now (upright .entry)) (oriented .full) (oriented .side) (oriented .position) .outcome ⌝ }
+    ensures { λ _. ⌜ Left (uprightWalk (now (upright .entry)) (oriented .full) (oriented .side) (oriented .position))
         (now (received .exit)) (now (unread .exit)) (now (found .exit)) ⌝ }
 {
     let mut marks = [0u8; 1664];
-    let full = seen.full;
-    let n = seen.side;
+    let full = oriented.full;
+    let n = oriented.side;
     let Said::Words(layers, data_words) = mode::said_of(full, n, upright) else {
         return Outcome::Refused(15);
     };
@@ -105,7 +103,7 @@ pub fn walk_upright(
     let layout = Layout {
         full,
         layers,
-        position: seen.position,
+        position: oriented.position,
         data_words,
     };
     let count = shapes::words_of(full, layers);

@@ -1,23 +1,23 @@
 // The two counts of an answer, over a block's first words: those with an unread module, and those fully read that differ from the block
-// found.
+// found. With the corrector's marks the first counts e.
 ghost use mathlib.Core.Path.{_≡_};
 ghost use Prim.Native.Nat.{_≤_};
 ghost use lib.ListN.{length};
-ghost use Rattle.walk.specs.Counts.{unreadOf, wrongOf};
+ghost use Rattle.walk.specs.Counts.{markedOf, wrongOf};
 
-pub fn count_unread(words: usize, marks: &[u8]) -> u32
+pub fn count_marked(words: usize, marks: &[u8]) -> u32
     requires { ⌜ (words ≤ 65536) × (words ≤ length (now marks)) ⌝ }
-    ensures { λ r. ⌜ r ≡ unreadOf words (now (marks .entry)) ⌝ }
+    ensures { λ r. ⌜ r ≡ markedOf words (now (marks .entry)) ⌝ }
 {
-    let mut unread: u32 = 0;
+    let mut marked: u32 = 0;
     let mut w = 0;
     while w < words {
         if marks[w] == 1 {
-            unread += 1;
+            marked += 1;
         }
         w += 1;
     }
-    unread
+    marked
 }
 
 pub fn count_wrong(words: usize, received: &[u16], marks: &[u8], found: &[u16]) -> u32

@@ -1,6 +1,6 @@
 // From a sampled grid to the outcome: side, length and modules, family, position, and the grid turned upright.
+use crate::Oriented;
 use crate::Outcome;
-use crate::Seen;
 use crate::block;
 use orientation::family;
 use orientation::modules;
@@ -9,33 +9,31 @@ use orientation::position::Placement;
 use orientation::sides;
 use sampling::upright as turning;
 ghost use mathlib.Core.Path.{_≡_};
+ghost use mathlib.Core.Option.{some};
 ghost use Prim.Native.Nat.{_*_, _≤_, _<_};
 ghost use lib.ListN.{length};
 ghost use Rattle.symbol.specs.Shapes.{core};
-ghost use Rattle.recovery.specs.Stages.{modeIn};
-ghost use Rattle.walk.specs.Walk.{modeWalk, gridWalk, walkOf, Left};
+ghost use Rattle.walk.specs.Walk.{placeWalk, gridWalk, walkOf, Left};
 ghost use Rattle.walk.specs.Rooms.{Rooms};
 
 // The grid in a known family and position, which is turned upright.
-fn walk_seen(
-    seen: Seen,
+fn walk_oriented(
+    oriented: Oriented,
     grid: &[u8],
     received: &mut [u16],
     unread: &mut [u8],
     found: &mut [u16],
 ) -> Outcome
-    requires { ⌜ (2 * core (seen .full) < seen .side) × (seen .side ≤ 151) × (seen .side * seen .side ≡ length (now grid))
-        × (seen .position < 8) ⌝ }
+    requires { ⌜ (2 * core (oriented .full) < oriented .side) × (oriented .side ≤ 151)
+        × (oriented .side * oriented .side ≡ length (now grid)) × (oriented .position < 8) ⌝ }
     requires { ⌜ Rooms (now received) (now unread) (now found) ⌝ }
-    ensures { λ r. ⌜ r ≡ modeWalk (now (grid .entry)) (seen .full) (seen .side) (seen .position)
-        (modeIn (seen .full) (seen .side) (seen .position) (now (grid .entry))) .outcome ⌝ }
-    ensures { λ _. ⌜ Left (modeWalk (now (grid .entry)) (seen .full) (seen .side) (seen .position)
-        (modeIn (seen .full) (seen .side) (seen .position) (now (grid .entry))))
+    ensures { λ r. ⌜ r ≡ placeWalk (now (grid .entry)) (oriented .full) (oriented .side) (some (oriented .position)) .outcome ⌝ }
+    ensures { λ _. ⌜ Left (placeWalk (now (grid .entry)) (oriented .full) (oriented .side) (some (oriented .position)))
         (now (received .exit)) (now (unread .exit)) (now (found .exit)) ⌝ }
 {
     let mut upright = [0u8; 22801];
-    turning::turn_upright(seen.side, seen.position, grid, &mut upright);
-    block::walk_upright(seen, &upright, received, unread, found)
+    turning::turn_upright(oriented.side, oriented.position, grid, &mut upright);
+    block::walk_upright(oriented, &upright, received, unread, found)
 }
 
 // The family, the position if there is a single best, and what is read in it.
@@ -54,12 +52,12 @@ fn walk_grid(
     let full = family::looks_full(n, grid);
     match position::placement_of(full, n, grid) {
         Placement::At(p) => {
-            let seen = Seen {
+            let oriented = Oriented {
                 full,
                 side: n,
                 position: p,
             };
-            walk_seen(seen, grid, received, unread, found)
+            walk_oriented(oriented, grid, received, unread, found)
         }
         Placement::Nowhere(best, positions) => Outcome::Unplaced(best, positions),
     }

@@ -5,8 +5,8 @@ pub mod counts;
 pub mod grid;
 pub mod mode;
 
-// How a grid is seen before its mode message is read: its family, side and position.
-pub struct Seen {
+// What is known of a grid before its mode message is read: its family, side and position.
+pub struct Oriented {
     pub full: bool,
     pub side: usize,
     pub position: usize,
@@ -25,7 +25,7 @@ pub struct Layout {
 // Refused: 11, 12, 13 or 15, the number alone.
 // Unplaced: 14, with the best match count and the positions that have it, position p as bit p.
 // Unlawful: 16, with the conditions that fail: 1 the side's, 2 D's, 3 both.
-// Uncorrected: 17, with e, the words marked for the corrector, and K.
+// Uncorrected: 17, with e, the words that are erasures, flat data words among them, and K.
 // Faulty: 18, 19 or 20, with the bit at which the item at fault starts (18: 0).
 // Says: the block found says a message of so many bytes.
 pub enum Outcome {

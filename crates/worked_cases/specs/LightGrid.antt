@@ -24,7 +24,7 @@ use Rattle.symbol.specs.GridWords.{value, unread, moduleAt, blockModule, blockW
 use Rattle.sampling.specs.Flat.{flatMarked}
 use Rattle.recovery.specs.Stages.{lawfulMode, blockWordsIn, blockMark, blockMarksIn, blockIn}
 use Rattle.walk.specs.declared.Outcome.the-variants.{Uncorrected, Faulty}
-use Rattle.walk.specs.Walk.{ended, foundWalk, blockWalk, layoutOf, unreadIn, shapeWalk}
+use Rattle.walk.specs.Walk.{ended, foundWalk, blockWalk, lawfulWalk, layoutOf, unreadIn, shapeWalk}
 use Rattle.walk.specs.BlockIn.{nearest-in}
 
 abbrev light : List ℕ
@@ -41,8 +41,9 @@ nine-marked = too-many-marks (sizeOf 6) 8 8 zeros _ (omega arith)
 -- 17, with e 9 and K 8
 pub beyond-correction : shapeWalk light false 15 0 1 9 ≡ ended (Uncorrected 9 8)
 unfolding tabulate count flat side square bits wordSize words skipped turned domino layerCell cell spread dataPlace placeIn
-    value unread moduleAt blockModule blockWord blockWordsIn flatMarked unreadIn lawfulMode blockWalk shapeWalk
-beyond-correction = ap (foundWalk (layoutOf false 1 0 9) (blockWordsIn false 1 0 light) (unreadIn false 1 0 light)) (nearest-in false 1 9 0 light ∙ nine-marked)
+    value unread moduleAt blockModule blockWord blockWordsIn flatMarked unreadIn lawfulMode blockWalk lawfulWalk
+beyond-correction =
+    ap (foundWalk (layoutOf false 1 0 9) (blockWordsIn false 1 0 light) (unreadIn false 1 0 light)) (nearest-in false 1 9 0 light ∙ nine-marked)
 
 zero-words : (n : ℕ) → Words (sizeOf 6) (replicate n 0)
 zero-words zero = λ i. omega arith
@@ -57,5 +58,6 @@ three-marked =
 
 -- 18, of the whole block: bit 0
 pub flat-found : shapeWalk light false 15 0 1 3 ≡ ended (Faulty 18 0)
-unfolding side bits wordSize words lawfulMode all flat judge blockWalk shapeWalk
-flat-found = ap (foundWalk (layoutOf false 1 0 3) (blockWordsIn false 1 0 light) (unreadIn false 1 0 light)) (nearest-in false 1 3 0 light ∙ three-marked)
+unfolding side bits wordSize words lawfulMode all flat judge blockWalk lawfulWalk
+flat-found =
+    ap (foundWalk (layoutOf false 1 0 3) (blockWordsIn false 1 0 light) (unreadIn false 1 0 light)) (nearest-in false 1 3 0 light ∙ three-marked)

@@ -3,7 +3,7 @@
 use borrow.Author.Needs.{needs}
 use mathlib.Core.Path.{_≡_, refl, sym, ap, _∙_, subst}
 use mathlib.Core.Logic.{_≢_}
-use mathlib.Core.List.{List, [], _∷_}
+use mathlib.Core.List.{[], _∷_}
 use Prim.Native.Nat.{ℕ, _≤_}
 use native.Mathlib.Omega.{arith}
 use denote.Enum.Declared.{tagOf}
@@ -19,7 +19,7 @@ use Rattle.walk.specs.declared.Outcome.the-variants.{Says}
 use Rattle.walk.proofs.Outcome.{the-type}
 use Rattle.walk.specs.Walk.{Walk, numberOf, walkOf}
 use Rattle.walk.specs.Ends.{EndsIn, Message, walk-ends, moded-shaped, moded-position, sampled-checks}
-use Rattle.walk.specs.Met.{fronts, met-says, met-walk}
+use Rattle.walk.specs.Fronts.{fronts, message-says, message-judged}
 use Rattle.decoder.specs.Decode.{refused, answerOf, decodeOf}
 use Rattle.decoder.specs.DecodeLaws.{no-message}
 use Rattle.decoder.proofs.delivering.decode_in.Statement.{statement}
@@ -48,12 +48,14 @@ module _ (c : tie.After-outcome) where
 
   -- its words, with their number from the code
   message : {k : ℕ} → k ≡ words (layout .full) (layout .layers) → (let a = start walked .args in let l = walked .walk .last in
-      Message (a .grid .now) (a .n) layout bytes (take k (l .1 .1 .0)) (take k (l .1 .1 .1 .0)) (take k (l .1 .1 .1 .1 .0)) (walkAt walked .text))
+      Message (a .grid .now) (a .n) layout bytes (take k (l .1 .1 .0)) (take k (l .1 .1 .1 .0)) (take k (l .1 .1 .1 .1 .0))
+      (walkAt walked .text))
   message e =
       let a = start walked .args in
       let l = walked .walk .last in
       fronts (a .grid .now) (a .n) layout (walkAt walked) (l .1 .1 .0) (l .1 .1 .1 .0) (l .1 .1 .1 .1 .0)
-      (subst (EndsIn (a .grid .now) (a .n) (walkAt walked)) (sym (walked .walk .ensures .0) ∙ c .outcome .given .1) (walk-ends (a .grid .now) (a .n)))
+      (subst (EndsIn (a .grid .now) (a .n) (walkAt walked)) (sym (walked .walk .ensures .0) ∙ c .outcome .given .1)
+      (walk-ends (a .grid .now) (a .n)))
       (walked .walk .ensures .1) e
 
 module _ (c : tie.After-words-of) where
@@ -158,7 +160,7 @@ deliver-requires c κs =
           omega (arith, f, sampled-checks (a .grid .now) (a .n) (m .sampled) .1, w .words-of .ensures),
           omega (arith, f, few w),
         ),
-        ((r ∙ sym f, u ∙ sym f), met-says (a .grid .now) (a .n) (layout (said w)) m),
+        ((r ∙ sym f, u ∙ sym f), message-says (a .grid .now) (a .n) (layout (said w)) m),
       ),
     )
 
@@ -180,7 +182,7 @@ returns-2 c =
     let d = c .before .before in
     let w = d .before .before .before .before .before in
     let a = from w .args in
-    let e = ap (answerOf (a .message .now)) (met-walk (a .grid .now) (a .n) (layout (said w)) (together w)) in
+    let e = ap (answerOf (a .message .now)) (message-judged (a .grid .now) (a .n) (layout (said w)) (together w)) in
     (d .deliver .ensures .0 ∙ ap (λ r. r .answer) e, d .deliver .ensures .1 ∙ ap (λ r. r .message) e)
 
 pub decode-in-spec : {M : Type 1} → statement M

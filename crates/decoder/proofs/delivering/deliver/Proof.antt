@@ -12,8 +12,9 @@ use Rattle.stream_reader.specs.Written.{Room, written}
 use Rattle.symbol.specs.Shapes.{wordSize, numberOf, word-size-range}
 use Rattle.symbol.specs.DataPlaces.{most-layers}
 use Rattle.decoder.specs.declared.Decoded.{Decoded}
-use Rattle.walk.specs.Counts.{unreadOf, unread-all, wrong-all}
-use Rattle.walk.specs.Saying.{Says}
+use Rattle.walk.specs.Counts.{markedOf, marked-all, wrong-all}
+use Rattle.walk.specs.Saying.{SaysMessage}
+use Rattle.walk.specs.Walk.{readingOf}
 use Rattle.walk.specs.MessageLength.{message-most}
 use Rattle.decoder.specs.DecodeLaws.{deliver-short, deliver-made}
 use Rattle.decoder.proofs.delivering.deliver.Statement.{statement}
@@ -23,7 +24,7 @@ use Rattle.decoder.proofs.delivering.deliver.Tie as tie
 abbrev words : tie.Start → List ℕ
 words a = take (a .args .layout .«data_words») (a .args .found .now)
 
-abbrev says : (a : tie.Start) → Says (items.judge (wordSize (a .args .layout .layers)) (words a)) (a .args .bytes)
+abbrev says : (a : tie.Start) → SaysMessage (readingOf (a .args .layout) (a .args .found .now)) (a .args .bytes)
 says a = a .pre .1 .1 .1
 
 length-words : (a : tie.Start) → length (words a) ≡ a .args .layout .«data_words»
@@ -40,8 +41,8 @@ returns c =
     (a .args .found .now) (says a) (c .before .if1 .taken) in
     (c .refused .ensures ∙ sym (ap (λ r. r .answer) e), sym (ap (λ r. r .message) e))
 
-count-unread-requires : tie.Need-count-unread-requires
-count-unread-requires c κs = search needs
+count-marked-requires : tie.Need-count-marked-requires
+count-marked-requires c κs = search needs
 
 count-wrong-requires : tie.Need-count-wrong-requires
 count-wrong-requires c κs = search needs
@@ -100,9 +101,11 @@ returns-2 c =
     let e =
     deliver-made (a .args .message .now) (a .args .layout) (a .args .received .now) (a .args .unread .now)
     (a .args .found .now) (says a) (counted .before .before .if1 .left) in (
-      ap (λ t. fields t (counted .before .count-unread .result) (counted .count-wrong .result)) (d .shape-of .ensures)
+      ap (λ t. fields t (counted .before .count-marked .result) (counted .count-wrong .result)) (d .shape-of .ensures)
           ∙ ap₂ (fields (numberOf (a .args .layout .full) (a .args .layout .layers)))
-          (counted .before .count-unread .ensures ∙ ap (λ n. unreadOf n (a .args .unread .now)) (sizes .0 ∙ sym (sizes .1)) ∙ unread-all (a .args .unread .now))
+          (counted .before .count-marked .ensures
+          ∙ ap (λ n. markedOf n (a .args .unread .now)) (sizes .0 ∙ sym (sizes .1))
+          ∙ marked-all (a .args .unread .now))
           (counted .count-wrong .ensures ∙ wrong-all (a .args .received .now) (a .args .unread .now) (a .args .found .now))
           ∙ sym (ap (λ r. r .answer) e),
       wrote .write-message .ensures
@@ -123,7 +126,7 @@ deliver-spec =
     (tie.spec
     refused-requires
     returns
-    count-unread-requires
+    count-marked-requires
     count-wrong-requires
     word-size-of-requires
     slice-aggregate-write-message

@@ -10,7 +10,7 @@ use lib.Seq.{length-take-le}
 use Rattle.stream.specs.Items as items
 use Rattle.symbol.specs.Shapes.{wordSize, word-size-range}
 use Rattle.walk.specs.Saying.{says-refused}
-use Rattle.walk.specs.MessageLength.{place-most}
+use Rattle.walk.specs.Faults.{bit-most}
 use Rattle.walk.specs.Upright.{judgedOf}
 use Rattle.walk.proofs.block.judge_block.Statement.{statement}
 use Rattle.walk.proofs.block.judge_block.Tie as tie
@@ -55,7 +55,7 @@ cast-t12 c =
     let a = start j in
     omega (
       arith,
-      place-most (wordSize (a .args .layout .layers)) (words a) _ _
+      bit-most (wordSize (a .args .layout .layers)) (words a)
           (says-refused (items.judge (wordSize (a .args .layout .layers)) (words a)) _ _ (sym (judged j) ∙ c .before .number .given .1))
           (omega (arith, length-words a, a .pre)) (word-size-range (a .args .layout .layers) .1),
     )

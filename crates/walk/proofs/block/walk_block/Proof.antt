@@ -1,9 +1,8 @@
 -- The block that was found is the nearest, or there is none.
 -- Assumes nothing.
 use borrow.Author.Needs.{needs}
-use mathlib.Core.Path.{_≡_, sym, ap, ap₂, _∙_, subst}
+use mathlib.Core.Path.{_≡_, sym, ap, ap₂, _∙_}
 use mathlib.Core.List.{List}
-use mathlib.Core.Option.{some}
 use Prim.Native.Nat.{ℕ, _-_, _≤_}
 use native.Mathlib.Nat.{le-refl}
 use native.Mathlib.Omega.{arith}
@@ -14,10 +13,10 @@ use Rattle.symbol.specs.Shapes.{wordSize, words}
 use Rattle.sampling.specs.Sampled.{blockWordsOf, blockMarksOf}
 use Rattle.encoder.specs.EncodeLaws.{words-all}
 use Rattle.walk.specs.declared.Outcome.the-variants.{Uncorrected}
-use Rattle.walk.specs.Counts.{unreadOf, unread-all}
-use Rattle.walk.specs.Walk.{Walk}
+use Rattle.walk.specs.Counts.{markedOf, marked-all}
+use Rattle.walk.specs.Walk.{Walk, readingOf}
 use Rattle.walk.specs.Upright.{judged-is}
-use Rattle.walk.specs.BlockLaws.{block-found, block-none, found-left, none-left}
+use Rattle.walk.specs.BlockLaws.{block-found, block-none, block-left, none-left}
 use Rattle.walk.proofs.block.walk_block.Statement.{statement}
 use Rattle.walk.proofs.block.walk_block.Tie as tie
 
@@ -38,8 +37,8 @@ length-found : (c : tie.After-correct-block) → length (found c) ≡ count (sta
 length-found c = c .correct-block .kept .1 .1 .1 .1 .1 .1 .1 .0 ∙ start c .pre .1 .1 .1 .1
 
 -- what was counted are the corrector's marks
-erased : {e : ℕ} {marks given : List ℕ} → e ≡ unreadOf (length marks) marks → marks ≡ given → e ≡ code.unread given
-erased {e} {marks} p q = p ∙ unread-all marks ∙ ap code.unread q
+erased : {e : ℕ} {marks given : List ℕ} → e ≡ markedOf (length marks) marks → marks ≡ given → e ≡ code.unread given
+erased {e} {marks} p q = p ∙ marked-all marks ∙ ap code.unread q
 
 correct-block-requires : tie.Need-correct-block-requires
 correct-block-requires c κs = search needs
@@ -72,13 +71,13 @@ returns c =
     let ms = blockMarksOf (l .full) (l .layers) u in
     let e = k .correct-block .ensures .1 .1 .1 .yes (c .before .before .if1 .taken) in (
       c .judge-block .ensures
-          ∙ judged-is l ws ms (found k) (items.judge (wordSize (l .layers)) (take (l .«data_words») (found k)))
+          ∙ judged-is l ws ms (found k) (readingOf l (found k))
           ∙ sym (ap (λ (w : Walk). w .outcome) (block-found l ws ms (found k) e)),
-      found-left l ws ms (found k) (k .correct-block .ensures .0) (k .correct-block .ensures .1 .0) e,
+      block-left l ws ms (found k) (k .correct-block .ensures .0) (k .correct-block .ensures .1 .0) e,
     )
 
-count-unread-requires : tie.Need-count-unread-requires
-count-unread-requires c κs =
+count-marked-requires : tie.Need-count-marked-requires
+count-marked-requires c κs =
     let k = c .before .before .before .before .before .before .before .before .before .before in
     let a = start k in
     let n = k .correct-block .kept .1 .1 .0 ∙ a .pre .1 .1 .1 .0 in
@@ -114,7 +113,7 @@ returns-2 c =
     let ws = blockWordsOf (l .full) (l .layers) u in
     let ms = blockMarksOf (l .full) (l .layers) u in
     let e = k .correct-block .ensures .1 .1 .1 .no (c .before .before .if1 .left) in (
-      ap₂ Uncorrected (erased (c .count-unread .ensures) (k .correct-block .ensures .1 .1 .0))
+      ap₂ Uncorrected (erased (c .count-marked .ensures) (k .correct-block .ensures .1 .1 .0))
           (ap (λ n. n - l .«data_words») (k .correct-block .kept .0 ∙ a .pre .1 .1 .0 .0))
           ∙ sym (ap (λ (w : Walk). w .outcome) (block-none l ws ms e)),
       none-left l ws ms (k .correct-block .last .0) (k .correct-block .last .1 .0) (found k) e,
@@ -131,7 +130,7 @@ walk-block-spec =
     same-length-3
     same-length-4
     returns
-    count-unread-requires
+    count-marked-requires
     sub-t25
     cast-t26
     same-length-5

@@ -17,9 +17,9 @@ use Rattle.walk.specs.declared.Outcome.{Outcome}
 use Rattle.walk.specs.declared.Outcome.the-variants.{Unlawful}
 use Rattle.walk.specs.declared.mode.Said.{Said}
 use Rattle.walk.specs.declared.mode.Said.the-variants.{Words, Nothing}
-use Rattle.walk.specs.Walk.{Walk, ended, Left, ended-left}
-use Rattle.walk.specs.Upright.{saidOf, modeOf, walkSaid, Sayable, sayable, lawful-parts, shape-lawful, shape-unlawful}
-use Rattle.walk.specs.BlockLaws.{left-longer}
+use Rattle.walk.specs.Walk.{Walk, ended, layoutOf, Left, ended-left}
+use Rattle.walk.specs.Upright.{saidOf, modeOf, saidWalk, Sayable, sayable, lawful-parts}
+use Rattle.walk.specs.BlockLaws.{walk-lawful, walk-unlawful, left-longer}
 use Rattle.walk.proofs.mode.Said.{the-type}
 use Rattle.walk.proofs.block.walk_upright.Statement.{statement}
 use Rattle.walk.proofs.block.walk_upright.Tie as tie
@@ -29,7 +29,7 @@ abbrev start : tie.After-said-of → tie.Start
 start c = c .before .before .before .before .before
 
 abbrev here : tie.Start → Said → Walk
-here a = walkSaid (a .args .upright .now) (a .args .seen .full) (a .args .seen .side) (a .args .seen .position)
+here a = saidWalk (a .args .upright .now) (a .args .oriented .full) (a .args .oriented .side) (a .args .oriented .position)
 
 -- a refusal leaves nothing to say of the buffers
 left : (a : tie.Start) {w : Walk} {o : Outcome} → w ≡ ended o → Left w (a .args .received .now) (a .args .unread .now) (a .args .found .now)
@@ -51,11 +51,11 @@ module _ (c : tie.After-layers) where
   abbrev D : ℕ
   D = c .layers .given .0 .1 .0
 
-  is : (let a = start said .args in saidOf (a .seen .full) (modeOf (a .upright .now) (a .seen .full) (a .seen .side)) ≡ Words L D)
+  is : (let a = start said .args in saidOf (a .oriented .full) (modeOf (a .upright .now) (a .oriented .full) (a .oriented .side)) ≡ Words L D)
   is = sym (said .said-of .ensures) ∙ c .layers .given .1
 
-  can : Sayable (start said .args .seen .full) L D
-  can = let a = start said .args in sayable (a .upright .now) (a .seen .full) (a .seen .side) L D is
+  can : Sayable (start said .args .oriented .full) L D
+  can = let a = start said .args in sayable (a .upright .now) (a .oriented .full) (a .oriented .side) is
 
 said-of-requires : tie.Need-said-of-requires
 said-of-requires c κs = search needs
@@ -76,7 +76,7 @@ returns c =
 failed-of-requires : tie.Need-failed-of-requires
 failed-of-requires c κs =
     let k = c .before in
-    (most-layers (start (said k) .args .seen .full) (L k) (can k .shaped), can k .most)
+    (most-layers (start (said k) .args .oriented .full) (L k) (can k .shaped), can k .most)
 
 returns-2 : tie.Need-returns-2
 returns-2 c =
@@ -86,14 +86,14 @@ returns-2 c =
     let failed = f .failed-of .ensures in
     let e =
     ap (here a) (is k)
-    ∙ shape-unlawful (a .args .upright .now) (a .args .seen .full) (a .args .seen .side) (a .args .seen .position) (L k) (D k)
-    (failed-some (a .args .seen .full) (a .args .seen .side) (L k) (D k) failed (c .if1 .taken)) in (
+    ∙ walk-unlawful (layoutOf (a .args .oriented .full) (L k) (a .args .oriented .position) (D k)) _ _ (a .args .oriented .side)
+    (failed-some (a .args .oriented .full) (a .args .oriented .side) (L k) (D k) failed (c .if1 .taken)) in (
       ap Unlawful failed ∙ sym (ap (λ (w : Walk). w .outcome) e),
       left a e,
     )
 
 words-of-requires : tie.Need-words-of-requires
-words-of-requires c κs = let k = c .before .before .before in most-layers (start (said k) .args .seen .full) (L k) (can k .shaped)
+words-of-requires c κs = let k = c .before .before .before in most-layers (start (said k) .args .oriented .full) (L k) (can k .shaped)
 
 -- the block's words fit any buffer
 module _ (c : tie.After-words-of) where
@@ -104,7 +104,7 @@ module _ (c : tie.After-words-of) where
   from = start (said told)
 
   few : c .words-of .result ≤ 1664
-  few = omega (arith, c .words-of .ensures, words-all (from .args .seen .full) (L told) (can told .shaped))
+  few = omega (arith, c .words-of .ensures, words-all (from .args .oriented .full) (L told) (can told .shaped))
 
   front : (l : List ℕ) → 1664 ≤ length l → length (take (c .words-of .result) l) ≡ c .words-of .result
   front l h = length-take-le (c .words-of .result) l (omega (arith, few))
@@ -115,9 +115,10 @@ module _ (c : tie.After-words-of) where
   marked : length {A = ℕ} (take (c .words-of .result) (replicate 1664 0)) ≡ c .words-of .result
   marked = length-take-le {A = ℕ} (c .words-of .result) (replicate 1664 0) few
 
-  lawful : lawfulMode (from .args .seen .full) (from .args .seen .side) (L told) (D told) ≡ true
+  lawful : lawfulMode (from .args .oriented .full) (from .args .oriented .side) (L told) (D told) ≡ true
   lawful =
-      failed-none (from .args .seen .full) (from .args .seen .side) (L told) (D told) (c .before .before .failed-of .ensures) (c .before .if1 .left)
+      failed-none (from .args .oriented .full) (from .args .oriented .side) (L told) (D told) (c .before .before .failed-of .ensures)
+      (c .before .if1 .left)
 
 slice-relend-prefix-walk-block : tie.Need-slice-relend-prefix-walk-block
 slice-relend-prefix-walk-block c = fits c (from c .args .received .now) (from c .pre .1 .received-room)
@@ -149,7 +150,7 @@ walk-block-requires c κs =
     let a = from w in
     let k = told w in
     let e = w .words-of .ensures in
-    let parts = lawful-parts (a .args .seen .full) (a .args .seen .side) (L k) (D k) (lawful w) in (
+    let parts = lawful-parts (a .args .oriented .full) (a .args .oriented .side) (L k) (D k) (lawful w) in (
       can k .shaped,
       (
         (subst (λ m. m * m ≤ length (a .args .upright .now)) (sym (parts .0)) (a .pre .0 .2), can k .least, parts .1),
@@ -181,7 +182,7 @@ returns-3 c =
     let s = b .walk-block .last .1 .1 .1 .1 .1 .0 in
     let e =
     ap (here a) (is k)
-    ∙ shape-lawful (a .args .upright .now) (a .args .seen .full) (a .args .seen .side) (a .args .seen .position) (L k) (D k) (lawful w) in (
+    ∙ walk-lawful (layoutOf (a .args .oriented .full) (L k) (a .args .oriented .position) (D k)) _ _ (a .args .oriented .side) (lawful w) in (
       b .walk-block .ensures .0 ∙ sym (ap (λ (w : Walk). w .outcome) e),
       subst (λ x. Left x (r ++ drop n (a .args .received .now)) (u ++ drop n (a .args .unread .now)) (s ++ drop n (a .args .found .now))) (sym e)
           (left-longer _ r u s _ _ _ (b .walk-block .ensures .1)),

@@ -1,7 +1,7 @@
 -- The family and the position are the definition's.
 -- Assumes nothing.
 use borrow.Author.Needs.{needs}
-use mathlib.Core.Path.{_≡_, sym, ap, _∙_, subst}
+use mathlib.Core.Path.{sym, ap, _∙_, subst}
 use Prim.Native.Nat.{_*_, _<_}
 use native.Mathlib.Omega.{arith}
 use Rattle.symbol.specs.Shapes.{core, core-range}
@@ -26,13 +26,13 @@ placement-of-requires c κs = (wide c, start c .pre .0 .1, omega (arith, start c
 enum-known-p : tie.Need-enum-known-p
 enum-known-p c = search needs
 
-walk-seen-requires : tie.Need-walk-seen-requires
-walk-seen-requires c κs =
+walk-oriented-requires : tie.Need-walk-oriented-requires
+walk-oriented-requires c κs =
     let p = c .before .before .before .before in
     let l = p .before .before .before in
     let a = start l in
     let at =
-    found-at (a .args .grid .now) (a .args .n) (l .looks-full .ensures)
+    found-at (a .args .grid .now) (a .args .n) (l .looks-full .result)
     (sym (p .before .before .placement-of .ensures) ∙ p .p .given .1) in (
       (wide l, a .pre .0 .1, a .pre .0 .2, found-best (l .looks-full .result) (a .args .n) (a .args .grid .now) at .lawful),
       a .pre .1,
@@ -56,12 +56,12 @@ returns c =
     let p = w .before .before .before .before .before in
     let l = p .before .before .before in
     let a = start l in
-    let left = w .walk-seen .last in
+    let left = w .walk-oriented .last in
     let e =
-    grid-placed (a .args .grid .now) (a .args .n) (l .looks-full .ensures)
+    grid-placed (a .args .grid .now) (a .args .n) (l .looks-full .result) (l .looks-full .ensures)
     (sym (p .before .before .placement-of .ensures) ∙ p .p .given .1) in (
-      w .walk-seen .ensures .0 ∙ ap (λ (x : Walk). x .outcome) e,
-      subst (λ x. Left x (left .1 .1 .0) (left .1 .1 .1 .0) (left .1 .1 .1 .1 .0)) e (w .walk-seen .ensures .1),
+      w .walk-oriented .ensures .0 ∙ ap (λ (x : Walk). x .outcome) e,
+      subst (λ x. Left x (left .1 .1 .0) (left .1 .1 .1 .0) (left .1 .1 .1 .1 .0)) e (w .walk-oriented .ensures .1),
     )
 
 returns-2 : tie.Need-returns-2
@@ -70,7 +70,7 @@ returns-2 c =
     let l = b .before .before .before in
     let a = start l in
     let e =
-    grid-unplaced (a .args .grid .now) (a .args .n) (l .looks-full .ensures)
+    grid-unplaced (a .args .grid .now) (a .args .n) (l .looks-full .result) (l .looks-full .ensures)
     (sym (b .before .before .placement-of .ensures) ∙ b .best .given .1) in (
       ap (λ (x : Walk). x .outcome) e,
       subst (λ x. Left x (a .args .received .now) (a .args .unread .now) (a .args .found .now)) e
@@ -84,7 +84,7 @@ walk-grid-spec =
     looks-full-requires
     placement-of-requires
     enum-known-p
-    walk-seen-requires
+    walk-oriented-requires
     enum-known-best
     same-length
     same-length-2

@@ -31,7 +31,8 @@ long : (c : tie.After-correct-mode) → 4 ≤ length (words c)
 long c = omega (arith, c .correct-mode .kept .1 .1 .1 .0, start c .pre .3, run-long (start c .args .full))
 
 -- the words were found
-found : (c : tie.Then1) → (let k = c .before .before .before in modeOf (start k .args .upright .now) (start k .args .full) (start k .args .n) ≡ some (words k))
+found : (c : tie.Then1) → (let k = c .before .before .before in let a = start k .args in
+    modeOf (a .upright .now) (a .full) (a .n) ≡ some (words k))
 found c = let k = c .before .before .before in k .correct-mode .ensures .yes (c .if1 .taken)
 
 nibbles : (c : tie.Then1) → Nibbles (words (c .before .before .before))

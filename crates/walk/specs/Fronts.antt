@@ -7,12 +7,11 @@ use Prim.Native.Nat.{ℕ}
 use lib.ListN.{length, take}
 use Rattle.list_laws.specs.Filled.{length-tabulate}
 use Rattle.block_code.specs.NearestLaws.{some-near}
-use Rattle.stream.specs.Items as items
-use Rattle.symbol.specs.Shapes.{wordSize, words}
+use Rattle.symbol.specs.Shapes.{words}
 use Rattle.recovery.specs.Stages.{blockWordsIn}
 use Rattle.walk.specs.declared.Layout.{Layout}
-use Rattle.walk.specs.Walk.{Walk, streamWalk, foundWalk, nearestBlock, unreadIn, walkOf, Left}
-use Rattle.walk.specs.Saying.{Says}
+use Rattle.walk.specs.Walk.{Walk, readingOf, nearestBlock, streamWalk, foundWalk, unreadIn, walkOf, Left}
+use Rattle.walk.specs.Saying.{SaysMessage}
 use Rattle.walk.specs.Ends.{Sampled, Message, sampled-walk}
 
 module _ (g : List ℕ) (n : ℕ) (l : Layout) where
@@ -30,7 +29,8 @@ module _ (g : List ℕ) (n : ℕ) (l : Layout) where
   found-size s e = some-near _ _ _ _ _ e .size ∙ received-size s
 
   -- the fronts of the buffers are the block's words
-  pub fronts : {bytes c : ℕ} (w : Walk) (received unread found : List ℕ) → Message g n l bytes (w .received) (w .unread) (w .found) (w .text)
+  pub fronts : {bytes c : ℕ} (w : Walk) (received unread found : List ℕ)
+      → Message g n l bytes (w .received) (w .unread) (w .found) (w .text)
       → Left w received unread found → c ≡ words (l .full) (l .layers)
       → Message g n l bytes (take c received) (take c unread) (take c found) (w .text)
   fronts {bytes} {c} w received unread found m left e = rw (front-received, front-unread, front-found) m
@@ -45,9 +45,9 @@ module _ (g : List ℕ) (n : ℕ) (l : Layout) where
       front-found = ap (λ k. take k found) (e ∙ sym (found-size (m .sampled) (m .block-is))) ∙ left .found-left
 
   module _ {bytes : ℕ} {received unread found text : List ℕ} (m : Message g n l bytes received unread found text) where
-    pub met-says : Says (items.judge (wordSize (l .layers)) (take (l .«data_words») found)) bytes
-    met-says = record { text = text; is = m .message-is; size = m .size }
+    pub message-says : SaysMessage (readingOf l found) bytes
+    message-says = record { text = text; is = m .message-is; size = m .size }
 
     -- what the caller judges is the walk's end
-    pub met-walk : streamWalk l received unread found (items.judge (wordSize (l .layers)) (take (l .«data_words») found)) ≡ walkOf g n
-    met-walk = sym (sampled-walk g n (m .sampled) ∙ ap (foundWalk l received unread) (m .block-is))
+    pub message-judged : streamWalk l received unread found (readingOf l found) ≡ walkOf g n
+    message-judged = sym (sampled-walk g n (m .sampled) ∙ ap (foundWalk l received unread) (m .block-is))

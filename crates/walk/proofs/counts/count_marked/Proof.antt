@@ -8,15 +8,15 @@ use Prim.Native.Nat.{_≤_, _-_}
 use native.Mathlib.Omega.{arith}
 use Rattle.list_laws.specs.Range.{count, count-none, count-most, count-yes, count-no}
 use Rattle.block_code.specs.Nearest.{marked}
-use Rattle.walk.specs.Counts.{unreadOf}
-use Rattle.walk.proofs.counts.count_unread.Statement.{statement}
-use Rattle.walk.proofs.counts.count_unread.Tie as tie
+use Rattle.walk.specs.Counts.{markedOf}
+use Rattle.walk.proofs.counts.count_marked.Statement.{statement}
+use Rattle.walk.proofs.counts.count_marked.Tie as tie
 
 abbrev Inv-loop : tie.InvT-loop
-Inv-loop words marks unread₀ w₀ unread w = (w ≤ words) × (unread ≡ count w (marked marks))
+Inv-loop words marks marked₀ w₀ counted w = (w ≤ words) × (counted ≡ count w (marked marks))
 
 abbrev μ-loop : tie.MeasureT-loop
-μ-loop words marks unread₀ w₀ unread w = words - w
+μ-loop words marks marked₀ w₀ counted w = words - w
 
 loop-holds : tie.Need-loop-holds Inv-loop μ-loop
 loop-holds c = (search needs, sym (count-none _))
@@ -24,8 +24,8 @@ loop-holds c = (search needs, sym (count-none _))
 shared-slice-read-if1 : tie.Need-shared-slice-read-if1 Inv-loop μ-loop
 shared-slice-read-if1 c = search needs
 
-add-unread : tie.Need-add-unread Inv-loop μ-loop
-add-unread c =
+add-marked : tie.Need-add-marked Inv-loop μ-loop
+add-marked c =
     let l = c .before .before .before in
     omega (arith, count-most (l .loop .w) (marked (l .before .args .marks .now)))
 
@@ -47,21 +47,21 @@ loop-again c =
     )
 
 returns : tie.Need-returns Inv-loop μ-loop
-unfolding unreadOf
+unfolding markedOf
 returns c =
     let a = c .before .before .args in
     let end : c .before .loop .w ≡ a .words = omega arith in
     c .before .loop .inv .1 ∙ ap (λ n. count n (marked (a .marks .now))) end
 
-pub count-unread-spec : {M : Type 1} → statement M
-count-unread-spec =
+pub count-marked-spec : {M : Type 1} → statement M
+count-marked-spec =
     tie.close
     (tie.spec
     Inv-loop
     μ-loop
     loop-holds
     shared-slice-read-if1
-    add-unread
+    add-marked
     add-w
     loop-less
     loop-again
