@@ -32,6 +32,8 @@ reads =
     -- "B/S with count and bytes": two bytes, of which one is there; "0 and then 11 bits of count minus 31", 31 zero bytes
     ∷ (bits 5 31 ++ bits 5 2 ++ bits 8 7, refused 20 0)
     ∷ (bits 5 31 ++ bits 5 0 ++ bits 11 0 ++ replicate 248 0, message (replicate 31 0))
+    -- the item after B/S with one byte starts at bit 5 + 5 + 8, and is cut short
+    ∷ (bits 5 31 ++ bits 5 1 ++ bits 8 7 ++ bits 3 0, refused 20 18)
     -- "if all remaining bits are 1s and fewer than B, stop": five, and six
     ∷ (replicate 5 1, message [])
     ∷ (replicate 6 1, refused 20 0)
@@ -51,6 +53,13 @@ pub judged : map (judge 6) ((5 ∷ 0 ∷ []) ∷ (5 ∷ 63 ∷ []) ∷ (5 ∷ []
 unfolding bits value allOnes chars table row entry width field complete bytesAt countAt itemBy itemAt bytesOf stops readFrom readItems
     all flat wordBits unstuffFrom unstuff judge
 judged = refl
+
+-- "the bit at which the item at fault starts, counted from 0 after the stuffed bits are dropped" (document 02, 6/12). Of 000001 the last
+-- bit is stuffed: P/S and 00110, "!", are bits 0 to 9, and the last 0 of 001100 is an item cut short
+pub place-unstuffed : judge 6 (1 ∷ 12 ∷ []) ≡ refused 20 10
+unfolding bits value allOnes chars table row entry width field complete bytesAt countAt itemBy itemAt bytesOf stops readFrom readItems
+    all flat wordBits unstuffFrom unstuff judge
+place-unstuffed = refl
 
 -- "The first bytes of the message buffer are the message; the rest keep their bytes"
 pub buffer-after : written (message (65 ∷ [])) (1 ∷ 2 ∷ []) ≡ 65 ∷ 2 ∷ []

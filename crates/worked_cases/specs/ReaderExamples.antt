@@ -26,7 +26,7 @@ use Rattle.orientation.specs.Placement.{bestMatches, bestPositions}
 use Rattle.recovery.specs.Stages.{lawfulMode, sideFailed, wordsFailed, failedMode, blockMark, blockMarksIn, unreadWords, wrongWords}
 use Rattle.walk.specs.declared.Layout.{Layout}
 use Rattle.walk.specs.declared.Outcome.the-variants.{Refused, Unplaced, Unlawful, Uncorrected, Faulty, Says}
-use Rattle.walk.specs.Walk.{Walk, numberOf, ended, layoutOf, gridWalk, walkOf}
+use Rattle.walk.specs.Walk.{Walk, numberOf, layoutOf, gridWalk, walkOf}
 use Rattle.decoder.specs.Decode.{refused, answerOf, decodeOf}
 
 -- "A data word (never a check word, and never a mode word) of all 0s or all 1s is marked too": of four words, two are data words
@@ -90,16 +90,21 @@ module _ (b : List ℕ) where
       hasSide isSide looksFull matches single position lawfulModules gridWalk walkOf decodeOf
   refusals = refl
 
--- what is known of the last of these: six matches, in every position
-pub light-grid : walkOf (replicate 225 0) 15 ≡ ended (Unplaced 6 255)
+-- "Any other number comes with zeros in every other field and untouched buffers"
+pub zeros : (k : ℕ) (b : List ℕ) → refused k b
+    ≡ record { answer = record { number = k; length = 0; shape = 0; position = 0; unread = 0; wrong = 0 }; message = b }
+zeros k b = refl
+
+-- what is known of the last of these: six matches, in every position; and no words, since none were read
+pub light-grid : walkOf (replicate 225 0) 15 ≡ record { outcome = Unplaced 6 255; received = []; unread = []; found = []; text = [] }
 unfolding all count firstFrom side isFull layers core turned corePlace orientationCell orientationPlace orientationBits placeIn
     hasSide isSide looksFull matches single position most maskFrom bestMatches bestPositions lawfulModules gridWalk walkOf
 light-grid = refl
 
--- a number for each outcome
-pub numbers : (l : Layout) → map numberOf (Refused 13 ∷ Unplaced 8 3 ∷ Unlawful 1 ∷ Uncorrected 9 8 ∷ Faulty 19 5 ∷ Says l 7 ∷ [])
-    ≡ 13 ∷ 14 ∷ 16 ∷ 17 ∷ 19 ∷ 0 ∷ []
-numbers l = refl
+-- a number for each outcome, whatever else its stage knew: 11, 12, 13 and 15, and 18, 19 and 20, are k
+pub numbers : (k x y : ℕ) (l : Layout) → map numberOf (Refused k ∷ Unplaced x y ∷ Unlawful x ∷ Uncorrected x y ∷ Faulty k x ∷ Says l x ∷ [])
+    ≡ k ∷ 14 ∷ 16 ∷ 17 ∷ k ∷ 0 ∷ []
+numbers k x y l = refl
 
 -- 21 "message buffer too short", whatever block was found; with room the message stands before what the buffer held
 module _ (received unread found : List ℕ) where
