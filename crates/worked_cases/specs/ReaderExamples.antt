@@ -115,7 +115,8 @@ module _ (received unread found : List ℕ) where
   pub no-room : answerOf (7 ∷ []) said ≡ refused 21 (7 ∷ [])
   no-room = refl
 
-  pub just-room : answerOf (7 ∷ 8 ∷ []) said .message ∷ answerOf (7 ∷ 8 ∷ 9 ∷ []) said .message ∷ [] ≡ (65 ∷ 66 ∷ []) ∷ (65 ∷ 66 ∷ 9 ∷ []) ∷ []
+  pub just-room : answerOf (7 ∷ 8 ∷ []) said .message ∷ answerOf (7 ∷ 8 ∷ 9 ∷ []) said .message ∷ []
+      ≡ (65 ∷ 66 ∷ []) ∷ (65 ∷ 66 ∷ 9 ∷ []) ∷ []
   just-room = refl
 
 -- the fields of an answer: of four words the outer two are unread, and one of the others is wrong; F4 is shape 8
