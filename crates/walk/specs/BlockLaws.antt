@@ -35,7 +35,7 @@ module _ (l : Layout) (received unread : List ℕ) where
   block-found found e = ap (foundWalk l received unread) e
 
   pub block-none : nearestBlock l received unread ≡ none
-      → blockWalk l received unread ≡ ended (Uncorrected (erasures l received unread) (checks l received unread))
+      → blockWalk l received unread ≡ ended (Uncorrected (erasures l received unread) (checks l))
   unfolding blockWalk
   block-none e = ap (foundWalk l received unread) e
 

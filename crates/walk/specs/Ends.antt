@@ -1,5 +1,5 @@
--- What the end of a walk says of the grid: for each outcome what held at the stages before, and why it is that outcome; and that nothing
--- else leads to it.
+-- What the end of a walk says of the grid: for each outcome what held at the stages before, and why it is that outcome; and that a grid of
+-- which this holds ends so.
 -- Assumes nothing.
 use mathlib.Core.Path.{_≡_, refl, sym, ap, ap₂, _∙_, subst}
 use mathlib.Core.Logic.{_⊎_, inl, inr, ⊎-elim}
@@ -91,7 +91,7 @@ module _ (g : List ℕ) (n : ℕ) where
     pub sampled : Sampled layout received unread
     pub no-block : nearestBlock layout received unread ≡ none
     pub erasures-are : erasures layout received unread ≡ e
-    pub checks-are : checks layout received unread ≡ K
+    pub checks-are : checks layout ≡ K
 
   -- 18, 19, 20
   pub record NoMessage (number bit : ℕ) : Type 0 where
@@ -191,7 +191,7 @@ module _ (g : List ℕ) (n : ℕ) where
       by-side false e = no-side e
       by-side true e = by-size e (eqb (length g) (n * n)) refl
 
-  -- Nothing else leads to it
+  -- A grid of which this holds ends so
 
   placed-walk : {f : Bool} {p : ℕ} → Placed f p → walkOf g n ≡ modeWalk g f n p (modeIn f n p g)
   unfolding gridWalk

@@ -100,7 +100,7 @@ read-faulted B (b ∷ l) zero at s = stop (stops B (b ∷ l)) (λ k t. read-faul
 
 -- so data words are refused by one of three numbers
 
-abbrev Refusal : ℕ → ℕ → ℕ → Type 0
+abbrev pub Refusal : ℕ → ℕ → ℕ → Type 0
 Refusal n k bit = ((k ≡ 18) × (bit ≡ 0)) ⊎ (((k ≡ 19) ⊎ (k ≡ 20)) × (bit ≤ n))
 
 abbrev RefusedBy : ℕ → Reading → Type 0
@@ -112,7 +112,7 @@ faulted-refused n (items.message m) h = tt
 faulted-refused n (items.refused k bit) h = inr (h .0, omega (arith, h .1))
 
 module _ (B : ℕ) (words : List ℕ) {k bit : ℕ} (e : judge B words ≡ items.refused k bit) where
-  pub refusal : ((k ≡ 18) × (bit ≡ 0)) ⊎ (((k ≡ 19) ⊎ (k ≡ 20)) × (bit ≤ length (unstuff B words)))
+  pub refusal : Refusal (length (unstuff B words)) k bit
   refusal = subst (RefusedBy (length (unstuff B words))) e judged
     where
       judged : RefusedBy (length (unstuff B words)) (judge B words)

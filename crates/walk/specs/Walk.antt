@@ -54,11 +54,11 @@ ended o = record { outcome = o; received = []; unread = []; found = []; text = [
 abbrev pub readingOf : Layout → List ℕ → items.Reading
 readingOf l block = items.judge (wordSize (l .layers)) (take (l .«data_words») block)
 
-module _ (l : Layout) (received unread : List ℕ) where
-  -- K
-  abbrev pub checks : ℕ
-  checks = words (l .full) (l .layers) - l .«data_words»
+-- K
+abbrev pub checks : Layout → ℕ
+checks l = words (l .full) (l .layers) - l .«data_words»
 
+module _ (l : Layout) (received unread : List ℕ) where
   -- the marks that the corrector is given, and e
   abbrev pub marksOf : List ℕ
   marksOf = flatMarked (wordSize (l .layers)) (l .«data_words») received unread
@@ -68,7 +68,7 @@ module _ (l : Layout) (received unread : List ℕ) where
 
   -- the corrected block
   abbrev pub nearestBlock : Option (List ℕ)
-  nearestBlock = nearest (sizeOf (wordSize (l .layers))) checks checks received marksOf
+  nearestBlock = nearest (sizeOf (wordSize (l .layers))) (checks l) (checks l) received marksOf
 
   abbrev pub streamWalk : List ℕ → items.Reading → Walk
   streamWalk found (items.message text) =
@@ -77,7 +77,7 @@ module _ (l : Layout) (received unread : List ℕ) where
 
   -- 17, with e and K
   abbrev pub foundWalk : Option (List ℕ) → Walk
-  foundWalk none = ended (Uncorrected erasures checks)
+  foundWalk none = ended (Uncorrected erasures (checks l))
   foundWalk (some found) = streamWalk found (readingOf l found)
 
   unfoldable pub blockWalk : Walk
