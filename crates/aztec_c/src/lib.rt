@@ -23,7 +23,7 @@ pub extern "C" fn aztec_correct(
 
 // The fields of encoder::Encoded, laid out as C lays them out.
 #[repr(C)]
-#[derive(Drop)]
+#[derive(Clone, Copy)]
 pub struct AztecEncoded {
     pub number: u32,
     pub shape: u32,
@@ -49,7 +49,7 @@ pub extern "C" fn aztec_encode(message: &[u8], percent: u32, grid: &mut [u8]) ->
 
 // The fields of decoder::Decoded, laid out as C lays them out.
 #[repr(C)]
-#[derive(Drop)]
+#[derive(Clone, Copy)]
 pub struct AztecDecoded {
     pub number: u32,
     pub length: u32,

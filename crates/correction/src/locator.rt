@@ -104,7 +104,7 @@ fn lengthen(
 }
 
 // Where the loop stands: the degree of p, the first place that p is not known to annihilate, and the discrepancy of q.
-#[derive(Drop)]
+#[derive(Clone, Copy)]
 pub struct Locating {
     pub length: usize,
     pub place: usize,

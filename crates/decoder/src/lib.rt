@@ -6,7 +6,7 @@ pub mod delivering;
 
 // What the decoder answers: a number, and after 0 the message's length, the shape's number, the position, and the two counts. Any other
 // number has zeros beside it.
-#[derive(Drop)]
+#[derive(Clone, Copy)]
 pub struct Decoded {
     pub number: u32,
     pub length: u32,

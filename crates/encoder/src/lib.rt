@@ -10,7 +10,7 @@ pub mod mode;
 pub mod planning;
 
 // What an encoder's entry answers: a number, and after 0 the shape's number, the side, D and K. Any other number has zeros beside it.
-#[derive(Drop)]
+#[derive(Clone, Copy)]
 pub struct Encoded {
     pub number: u32,
     pub shape: u32,

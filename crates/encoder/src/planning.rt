@@ -23,7 +23,7 @@ pub fn refused(number: u32) -> Encoded
 }
 
 // The words of a message in words of a size. They are counted anew only where the size changes along the list.
-#[derive(Drop)]
+#[derive(Clone, Copy)]
 pub struct Counted {
     pub size: usize,
     pub words: usize,

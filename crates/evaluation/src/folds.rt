@@ -11,7 +11,7 @@ ghost use Rattle.evaluation.specs.Evaluation as steps;
 use crate::Points;
 
 // A step of folding: `classes` classes of `per · part` words each become `classes · per` classes of `part` words.
-#[derive(Drop)]
+#[derive(Clone, Copy)]
 pub struct Folding {
     pub classes: usize,
     pub per: usize,

@@ -10,7 +10,7 @@ pub mod folds;
 pub mod zeros;
 
 // Where a polynomial is evaluated: at 2^first and the next powers, `count` of them.
-#[derive(Drop)]
+#[derive(Clone, Copy)]
 pub struct Points {
     pub first: usize,
     pub count: usize,

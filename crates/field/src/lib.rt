@@ -1,5 +1,7 @@
 // Products, powers and inverses of words, by tables that the caller lends. `size` names the word size for the contracts alone: what the
 // code needs of it is in the tables' length. `times_power` is the one place where a product is formed.
+#![tactic(auto)]
+
 ghost use Rattle.std.specs.Prelude.{◌≡◌, ◌<◌, ◌^◌};
 ghost use Rattle.finite_field.specs.Field.{size_of, bits, Word, product, power, inverse};
 ghost use Rattle.finite_field.specs.Tables.{Tables};

@@ -5,7 +5,7 @@ ghost use Rattle.grid_text.specs.Kinds.{kind_of};
 // Stands for a byte that is no module.
 pub const NO_MODULE: u8 = 3;
 
-#[derive(Drop)]
+#[derive(Clone, Copy)]
 pub enum Kind {
     // A line feed.
     Line,

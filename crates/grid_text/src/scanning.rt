@@ -5,7 +5,7 @@ ghost use Rattle.grid_text.specs.Scanning.{step, shown};
 use crate::kinds::{Kind, NO_MODULE};
 use crate::{bitmap, rows};
 
-#[derive(Drop)]
+#[derive(Clone, Copy)]
 pub enum Scan {
     // A bitmap, before its width (side 0) or its height.
     Gap { side: u8 },

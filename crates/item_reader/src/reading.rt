@@ -4,14 +4,14 @@ ghost use Rattle.stream.specs.Stuffing.{unstuff_from};
 ghost use Rattle.item_reader.specs.Places.{word_length, rest, Taken};
 
 // Stream bit `bit` of word `word` and of the words after it.
-#[derive(Drop)]
+#[derive(Clone, Copy)]
 pub struct Place {
     pub word: usize,
     pub bit: usize,
 }
 
 // What some bits say, and the place after them.
-#[derive(Drop)]
+#[derive(Clone, Copy)]
 pub struct Bits {
     pub value: usize,
     pub next: Place,

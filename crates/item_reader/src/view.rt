@@ -8,7 +8,7 @@ use crate::items;
 use crate::reading::Place;
 use stream::items::Found;
 
-#[derive(Drop)]
+#[derive(Clone, Copy)]
 pub struct View<'a> {
     pub words: &'a [u16],
     pub size: usize,

@@ -1,6 +1,6 @@
 -- The list f 0, f 1, .., f (n - 1), and a buffer filled with it from the front: what a loop that stores at each place in turn leaves.
 -- Assumes nothing.
-use Rattle.std.specs.Prelude.{◌≡◌, ◌⊎◌, length, get_or, drop, set}
+use Rattle.std.specs.Prelude.{◌≡◌, length, get_or, drop, set}
 use Rattle.std.proofs.Math.Path.{refl}
 use Rattle.std.proofs.Common.{ap, ◌∙◌, sym, not-suc-le-zero, eq-or-lt_of_le, le_of_suc-le-suc, add-sub_of_le, arith, length-drop, drop-cons, get_or-append-add, get_or-drop, ext_get_or}
 use Rattle.std.proofs.Math.Logic.{⊎_elim}

@@ -123,7 +123,7 @@ fn positions_with(most: usize, counts: &[usize; 8]) -> u32
 
 // Where the twelve orientation modules put a grid. At: in position 0 to 7. Nowhere: no single best position with 9 matches (number 14); the
 // best match count, and the positions that have it, position p as bit p.
-#[derive(Drop)]
+#[derive(Clone, Copy)]
 pub enum Placement {
     At(usize),
     Nowhere(u32, u32),

@@ -1,4 +1,6 @@
 // A symbol as a picture: its modules inside a light border, line by line, as a drawing for the terminal or as a portable bitmap.
+#![tactic(auto)]
+
 ghost use Rattle.std.specs.Prelude.{◌≡◌, ℕ, ◌+◌, ◌*◌, ◌≤◌, length};
 ghost use Rattle.picture.specs.Picture.{inside, dark, digit_of, extent, glyph, upper, joined, two_rows, pbm_row, pair_line, half_line, terminal_line};
 ghost use Rattle.list_laws.specs.Putting.{Put, at_front};

@@ -8,7 +8,7 @@ ghost use Rattle.sampling.specs.Lines.{Along};
 use symbol::places;
 
 // Column c stands at start + c * ahead - c * back.
-#[derive(Drop)]
+#[derive(Clone, Copy)]
 pub struct Line {
     pub start: usize,
     pub ahead: usize,

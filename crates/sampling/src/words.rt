@@ -6,7 +6,7 @@ ghost use Rattle.symbol.specs.GridWords.{value, unread};
 ghost use Rattle.sampling.specs.Sampled.{tabled, table_module};
 
 // A word's value, where unread modules count as 0, and its mark: 1 if there is one.
-#[derive(Drop)]
+#[derive(Clone, Copy)]
 pub struct Word {
     pub value: u16,
     pub mark: u8,

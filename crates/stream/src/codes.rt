@@ -6,7 +6,7 @@ ghost use Rattle.stream.specs.Codes as codes;
 ghost use Rattle.stream.specs.Latches.{latch_bits};
 
 // What a code of a set stands for.
-#[derive(Drop)]
+#[derive(Clone, Copy)]
 pub enum Entry {
     Char(u8),
     Pair(u8, u8),
@@ -71,7 +71,7 @@ const LATCH_BITS: [[u8; 5]; 5] = [
     [4, 9, 9, 14, 0],
 ];
 
-#[derive(Drop)]
+#[derive(Clone, Copy)]
 pub struct LatchPath {
     pub code: usize,
     pub bits: usize,

@@ -30,7 +30,7 @@ pub extern "C" fn stream_write(message: &[u8], word_size: u32, words: &mut [u16]
 
 // 0 and the message's length, or the number that refuses and the bit place of the item at fault.
 #[repr(C)]
-#[derive(Drop)]
+#[derive(Clone, Copy)]
 pub struct Judged {
     pub number: u32,
     pub value: usize,

@@ -11,7 +11,7 @@ use crate::stuffing::Out;
 use stream::codes;
 
 // How far the message is written: the words, the set, and the next byte.
-#[derive(Drop)]
+#[derive(Clone, Copy)]
 pub struct Turn {
     pub out: Out,
     pub set: usize,

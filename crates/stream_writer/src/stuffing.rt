@@ -8,7 +8,7 @@ ghost use Rattle.stream_writer.specs.Writing.{Ready, Wrote, Ending};
 use stream::stuffing::Put;
 
 // How far the writing is: the whole words, the bits of the word so far, and what they say.
-#[derive(Drop)]
+#[derive(Clone, Copy)]
 pub struct Out {
     pub count: usize,
     pub bits: usize,

@@ -1,7 +1,7 @@
 -- The eight positions of a grid of side n (document 01, "How a grid is read": "Position is the number of clockwise quarter turns, 0 to 3,
 -- plus 4 if the made tag was mirrored left to right before them").
 -- Assumes nothing.
-use Rattle.std.specs.Prelude.{◌≡◌, refl, List, ℕ, zero, suc, ◌*◌, ◌-◌, ◌/◌, ◌%◌, ◌<◌, length, replicate}
+use Rattle.std.specs.Prelude.{◌≡◌, refl, List, ℕ, zero, suc, ◌*◌, ◌/◌, ◌%◌, ◌<◌, length, replicate}
 use Rattle.std.proofs.Common.{sym, ◌∙◌, mod-lt, div-lt_iff_lt-mul, arith}
 use Rattle.std.proofs.Math.Path.{ap, ap₂, subst}
 use Rattle.std.proofs.Math.ListN.{get_or, length-replicate}

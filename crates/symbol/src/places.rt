@@ -9,7 +9,7 @@ ghost use Rattle.symbol.specs.Walk.{Lined, InTable, table_place, run, within, Re
 use crate::shapes;
 
 // A row and a column.
-#[derive(Drop)]
+#[derive(Clone, Copy)]
 pub struct Cell {
     pub row: usize,
     pub col: usize,
@@ -168,7 +168,7 @@ fn domino_cell(s: usize, square: usize, j: usize, b: usize) -> Cell
 
 // The layers of data bits, walked inward: `left` of them are to come, in a square that has `outer` rows and columns before it; the next
 // bit is `first`.
-#[derive(Drop)]
+#[derive(Clone, Copy)]
 pub struct Layer {
     pub left: usize,
     pub square: usize,

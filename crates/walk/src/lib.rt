@@ -6,7 +6,7 @@ pub mod grid;
 pub mod mode;
 
 // What is known of a grid before its mode message is read: its family, side and position.
-#[derive(Drop)]
+#[derive(Clone, Copy)]
 pub struct Oriented {
     pub full: bool,
     pub side: usize,
@@ -14,7 +14,7 @@ pub struct Oriented {
 }
 
 // What a grid was taken for: its family, L, its position and D.
-#[derive(Drop)]
+#[derive(Clone, Copy)]
 pub struct Layout {
     pub full: bool,
     pub layers: usize,
@@ -30,7 +30,7 @@ pub struct Layout {
 // Uncorrected: 17, with e, the words that are erasures, flat data words among them, and K.
 // Faulty: 18, 19 or 20, with the bit at which the item at fault starts (18: 0).
 // Says: the block found says a message of so many bytes.
-#[derive(Drop)]
+#[derive(Clone, Copy)]
 pub enum Outcome {
     Refused(u32),
     Unplaced(u32, u32),

@@ -8,7 +8,7 @@ use recovery::{correcting, said};
 use symbol::places;
 
 // L and D, or nothing where the mode words are beyond correction.
-#[derive(Drop)]
+#[derive(Clone, Copy)]
 pub enum Said {
     Words(usize, usize),
     Nothing,

@@ -1,6 +1,6 @@
 -- The inverse of x ^ k is x to the order less k.
 -- Assumes nothing.
-use Rattle.std.proofs.Common.{rules, sym, ap, ◌∙◌, arith}
+use Rattle.std.proofs.Common.{sym, ap, ◌∙◌, arith}
 use Rattle.finite_field.specs.Field.{size_of, inverse}
 use Rattle.finite_field.specs.FieldLaws.{inverse-zero}
 use Rattle.field.proofs.ByTables.{log-word, inverse-at}

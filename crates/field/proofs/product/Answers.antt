@@ -1,6 +1,6 @@
 -- A word that is not 0 is a power of x, at its logarithm.
 -- Assumes nothing.
-use Rattle.std.proofs.Common.{rules, sym, ap, ◌∙◌, arith}
+use Rattle.std.proofs.Common.{sym, ap, ◌∙◌, arith}
 use Rattle.finite_field.specs.Field.{size_of, product}
 use Rattle.finite_field.specs.FieldLaws.{product-zero-right}
 use Rattle.field.proofs.ByTables.{log-word, power-of-log}
@@ -15,9 +15,9 @@ returns-then-b-eq0 c =
 pub times_power-requires : goal.times_power-requires
 times_power-requires c =
     let s = c in record {
-        fact_1 = s.requires.fact_1;
-        fact_2 = s.requires.fact_2;
-        fact_3 = omega (arith, log-word s.requires.fact_1 s.requires.fact_3 c.if-b-eq0.false c.wide.ensures, s.requires.fact_1.exp-length);
+      fact_1 = s.requires.fact_1;
+      fact_2 = s.requires.fact_2;
+      fact_3 = omega (arith, log-word s.requires.fact_1 s.requires.fact_3 c.if-b-eq0.false c.wide.ensures, s.requires.fact_1.exp-length);
     }
 
 pub returns : goal.returns

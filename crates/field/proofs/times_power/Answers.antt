@@ -1,6 +1,6 @@
 -- The product by the sum of the exponents, turned over at the order.
 -- Assumes nothing.
-use Rattle.std.proofs.Common.{rules, sym, ap, ◌∙◌, ℕ, arith}
+use Rattle.std.proofs.Common.{sym, ap, ◌∙◌, ℕ, arith}
 use Rattle.finite_field.specs.Field.{size_of, product, power}
 use Rattle.finite_field.specs.FieldLaws.{product-zero-left}
 use Rattle.field.proofs.ByTables.{log-word, within, at_sum}
@@ -16,9 +16,9 @@ pub turned-requires : goal.turned-requires
 turned-requires c =
     let s = c in
     let e-lt = log-word s.requires.fact_1 s.requires.fact_2 c.if-a-eq0.false c.wide-e.ensures in record {
-        fact_1 = s.requires.fact_1.exp-length;
-        fact_2 = omega arith;
-        fact_3 = omega (arith, s.requires.fact_1.exp-length);
+      fact_1 = s.requires.fact_1.exp-length;
+      fact_2 = omega arith;
+      fact_3 = omega (arith, s.requires.fact_1.exp-length);
     }
 
 pub offset_bounds-powers-turned : goal.offset_bounds-powers-turned

@@ -1,6 +1,6 @@
 -- The sum of two exponents is below twice the number of words: its lower bits and its carry are all of it.
 -- Assumes nothing.
-use Rattle.std.proofs.Common.{rules, ◌≡◌, ◌+◌, ◌-◌, arith, bit_and, leb}
+use Rattle.std.proofs.Common.{◌≡◌, ◌+◌, ◌-◌, arith, bit_and, leb}
 use mir.Val.{bool_byte}
 use Rattle.finite_field.specs.Field.{size_of}
 use Rattle.finite_field.specs.FieldLaws.{most-words}

@@ -1,0 +1,36 @@
+-- The first k places are written.
+-- Assumes nothing.
+use Rattle.std.proofs.Common.{◌≡◌, refl, ap, ap₂, ◌∙◌, Bool, ℕ, ◌+◌, ◌*◌, ◌-◌, ◌/◌, ◌%◌, arith, length}
+use Rattle.list_laws.specs.Writes.{writes-none, writes-step, length-writes}
+use Rattle.symbol.specs.Shapes.{core, core-range}
+use Rattle.symbol.specs.Places.{turned, core_place, orientation_cell, orientation_place}
+use Rattle.symbol.proofs.places.orientation_places.Goals as goal
+
+-- module m of a corner stands at row 1, 0, 0 and column 0, 0, 1
+corner : (f : Bool) (n k : ℕ) {x : ℕ} → x ≡ core_place f n (turned (k / 3) (2 * core f + 1) ((3 - k % 3) / 3) (k % 3 / 2)) → x ≡ orientation_place f n k
+unfolding orientation_place orientation_cell
+corner f n k e =
+    let row : (3 - k % 3) / 3 ≡ 1 - k % 3 = omega arith in
+    let col : k % 3 / 2 ≡ k % 3 - 1 = omega arith in
+    e ∙ ap₂ (λ (r c : ℕ). core_place f n (turned (k / 3) (2 * core f + 1) r c)) row col
+
+pub loop-k-init : goal.loop-k-init
+loop-k-init c = (omega arith, writes-none _ _ _)
+
+pub core_place-requires : goal.core_place-requires
+core_place-requires c =
+    let s = c in
+    let r = core-range s.args.full in
+    (s.requires.0, s.requires.1, omega arith, omega arith, omega arith)
+
+pub bounds-places-k : goal.bounds-places-k
+bounds-places-k c = omega (arith, simp length-writes at (ap length c.loop-k.invariant.1))
+
+pub loop-k-preserved : goal.loop-k-preserved
+loop-k-preserved c =
+    let s = c in
+    let l = c.loop-k in
+    (omega arith, writes-step _ _ _ l.k l.invariant.1 refl (corner s.args.full s.args.n l.k c.core_place.ensures))
+
+pub returns : goal.returns
+returns c = let e : c.loop-k.k ≡ 12 = omega arith in rw e at c.loop-k.invariant.1
