@@ -1,4 +1,6 @@
 // A polynomial over a word field at many powers of 2: by folding where there is much to do, word by word where there is little.
+#![tactic(auto)]
+
 ghost use Rattle.finite_field.specs.Field.{size_of};
 ghost use Rattle.finite_field.specs.Tables.{Tables};
 ghost use Rattle.evaluation.specs.Evaluation as steps;
