@@ -1,0 +1,36 @@
+-- The sum so far is the dot product of the terms passed.
+-- Assumes nothing.
+use Rattle.std.proofs.Common.{rules, ◌≡◌, ap, ◌∙◌, ℕ, ◌+◌, arith}
+use Rattle.algebra.specs.KeyEquation as key
+use Rattle.finite_field.specs.Field.{size_of}
+use Rattle.finite_field.specs.Instance.{word_field, entry, number}
+use Rattle.correction.proofs.Combining.{dot-none, dot-more}
+use Rattle.correction.proofs.locator.dot.Goals as goal
+
+pub loop-j-init : goal.loop-j-init
+loop-j-init c = (search rules, let a = c.args in dot-none (size_of a.size) a.p.now a.u.now a.at)
+
+pub product-sum-requires : goal.product-sum-requires
+product-sum-requires c =
+    let s = c in
+    let j = c.loop-j.j in record {
+      fact_1 = s.requires.tables_1;
+      fact_2 = s.requires.tables_2 j;
+      fact_3 = s.requires.tables_3 (s.args.at + j);
+    }
+
+pub loop-j-preserved : goal.loop-j-preserved
+loop-j-preserved c =
+    let s = c in
+    let l = c.loop-j in (
+      search rules,
+      dot-more (size_of s.args.size) s.args.p.now s.args.u.now s.args.at l.j s.requires.tables_2 s.requires.tables_3 l.invariant.1 c.product-sum.ensures,
+    )
+
+pub returns : goal.returns
+returns c =
+    let a = c.args in
+    let size = size_of a.size in
+    let e : c.loop-j.j ≡ a.count = omega arith in
+    c.loop-j.invariant.1
+    ∙ ap (λ (n : ℕ). number size (key.dot (word_field size) n (entry size a.p.now) (entry size a.u.now) a.at)) e

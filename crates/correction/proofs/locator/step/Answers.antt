@@ -1,0 +1,68 @@
+-- What the loop keeps gives what the calls ask, and what they leave is one of algebra's three steps.
+-- Assumes nothing.
+use Rattle.std.proofs.Common.{arith}
+use Rattle.finite_field.specs.Field.{size_of}
+use Rattle.correction.proofs.Turn.{discrepancy-word, turn-annihilates, turn-kept, turn-lengthened}
+use Rattle.correction.proofs.locator.step.Goals as goal
+
+pub dot-d-requires : goal.dot-d-requires
+dot-d-requires c =
+    let pre = c.requires in
+    let v = pre.locating in record {
+      tables_1 = pre.tables_1;
+      tables_2 = v.p-words;
+      tables_3 = pre.tables_2;
+      count_in_bounds_1 = omega (arith, v.locating.L-le);
+      count_in_bounds_2 = omega (arith, v.locating.L-le);
+    }
+
+pub returns-then-d-eq0 : goal.returns-then-d-eq0
+returns-then-d-eq0 c =
+    let s = c in record {
+      locating_2 = turn-annihilates (size_of s.args.size) s.requires.locating c.dot-d.ensures c.if-d-eq0.true;
+      place_value = omega arith;
+    }
+
+pub keep_length-requires : goal.keep_length-requires
+keep_length-requires c =
+    let s = c in
+    let v = s.requires.locating in record {
+      tables_1 = s.requires.tables_1;
+      tables_2 = v.scale-word;
+      tables_3 = discrepancy-word (size_of s.args.size) v c.dot-d.ensures;
+      words_1 = v.p-words;
+      words_2 = v.q-words;
+      words_3 = omega arith;
+      words_4 = omega arith;
+    }
+
+pub returns-then-place-length : goal.returns-then-place-length
+returns-then-place-length c =
+    let s = c in record {
+      locating_2 = turn-kept (size_of s.args.size) s.requires.locating c.dot-d.ensures
+          _ (omega arith) c.keep_length.ensures;
+      place_value = omega arith;
+    }
+
+pub lengthen-requires : goal.lengthen-requires
+lengthen-requires c =
+    let s = c in
+    let v = s.requires.locating in record {
+      tables_1 = s.requires.tables_1;
+      tables_2 = v.scale-word;
+      tables_3 = discrepancy-word (size_of s.args.size) v c.dot-d.ensures;
+      tables_4 = omega arith;
+      words_1 = v.p-words;
+      words_2 = v.q-words;
+      words_3 = omega arith;
+      words_4 = omega arith;
+    }
+
+pub returns : goal.returns
+returns c =
+    let s = c in record {
+      locating_2 = turn-lengthened (size_of s.args.size) s.requires.locating
+          c.dot-d.ensures
+          _ (omega arith) s.requires.t_in_bounds_3 c.if-d-eq0.false c.lengthen.ensures;
+      place_value = omega arith;
+    }

@@ -1,0 +1,49 @@
+-- The loop is Correcting's.
+-- Assumes nothing.
+use Rattle.std.proofs.Common.{rules, arith}
+use Rattle.finite_field.specs.Field.{size_of}
+use Rattle.correction.proofs.Correcting.{correcting-none, correcting-skip, correcting-take, correcting-all}
+use Rattle.correction.proofs.values.corrections.Goals as goal
+use Rattle.correction.proofs.values.corrections.Goals.{else-places-i-eq1, then-places-i-eq1}
+
+pub loop-i-init : goal.loop-i-init
+loop-i-init c =
+    let a = c.args in
+    (search rules, correcting-none (size_of a.size) a.n a.m a.g.now a.syndromes.now a.places.now)
+
+pub correction-requires : goal.correction-requires
+correction-requires c =
+    let start = c in record {
+      tables_1 = start.requires.tables_1;
+      tables_2 = start.requires.tables_2;
+      tables_3 = start.requires.tables_3;
+      m_in_bounds_1 = search rules;
+      m_in_bounds_2 = search rules;
+      m_in_bounds_3 = omega (arith, start.requires.m_in_bounds_4);
+    }
+
+pub loop-i-preserved : goal.loop-i-preserved
+loop-i-preserved c =
+    let start = c in
+    let a = start.args in
+    let l = c.loop-i in
+    let size = size_of a.size in
+    elim c.if-places-i-eq1.branch [
+      | then-places-i-eq1 w ↦ (
+        search rules,
+        rw w.places-is (correcting-take size a.n a.m a.g.now a.syndromes.now a.places.now l.invariant.1 w.if-places-i-eq1.true (search rules) w.correction.ensures),
+      )
+      | else-places-i-eq1 w ↦ (
+        search rules,
+        rw w.places-is
+            (correcting-skip size a.n a.m a.g.now a.syndromes.now a.places.now l.invariant.1
+            (start.requires.zero_from_2 l.i (search rules)) w.if-places-i-eq1.false),
+      )
+    ]
+
+pub returns : goal.returns
+returns c =
+    let start = c in
+    let a = start.args in
+    correcting-all (size_of a.size) a.n a.m a.g.now a.syndromes.now a.places.now c.loop-i.invariant.1 (search rules)
+    start.requires.zero_from_1
