@@ -29,7 +29,7 @@ def expanded(path):
 
 def named_paths(text, roots):
     for found in re.findall(rf"(?<![\w/.])(?:{roots})/[\w./{{}},*-]*[\w}}*]", text):
-        if "NAME" not in found and "target/" not in found:
+        if "NAME" not in found and "target/" not in found and "/out" not in found:
             yield from expanded(found)
 
 
@@ -55,7 +55,7 @@ def names():
 
 def listed_crates():
     lines = (TOP / "crates.txt").read_text().splitlines()
-    return [line.split(":")[0] for line in lines if ":" in line and not line.startswith("#")]
+    return [line.split(":")[0].split()[0] for line in lines if ":" in line and not line.startswith("#")]
 
 
 def crates():
