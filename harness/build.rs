@@ -2,16 +2,16 @@
 //! another revision's archive only where their features are asked for. Maker and reader are
 //! called only where the archive has them.
 
-use std::{env, path::Path, process::Command};
+use std::{
+    env,
+    path::{Path, PathBuf},
+    process::Command,
+};
 
 fn main() {
     let manifest = env::var("CARGO_MANIFEST_DIR").expect("cargo names the manifest's folder");
-    let folder = env::var("AZTEC_LIB_DIR").unwrap_or_else(|_| "../target/staticlib".into());
-    let folder = Path::new(&manifest).join(folder);
     println!("cargo:rerun-if-env-changed=AZTEC_LIB_DIR");
-    let aztec = folder.join("libaztec_c.a");
-    println!("cargo:rerun-if-changed={}", aztec.display());
-    println!("cargo:rustc-link-search=native={}", folder.display());
+    let aztec = archive(&manifest, "aztec_c");
     println!("cargo:rustc-link-lib=static=aztec_c");
     for function in ["aztec_encode", "aztec_decode"] {
         println!("cargo:rustc-check-cfg=cfg({function})");
@@ -19,8 +19,7 @@ fn main() {
             println!("cargo:rustc-cfg={function}");
         }
     }
-    let stream = folder.join("libstream_c.a");
-    println!("cargo:rerun-if-changed={}", stream.display());
+    let stream = archive(&manifest, "stream_c");
     println!("cargo:rustc-check-cfg=cfg(stream_c)");
     if stream.exists() {
         println!("cargo:rustc-cfg=stream_c");
@@ -32,6 +31,16 @@ fn main() {
     if env::var_os("CARGO_FEATURE_REVISIONS").is_some() {
         link_before();
     }
+}
+
+/// The archive of a crate, in the folder that AZTEC_LIB_DIR names, or else where `rt lib` writes it.
+fn archive(manifest: &str, name: &str) -> PathBuf {
+    let folder = env::var("AZTEC_LIB_DIR").unwrap_or_else(|_| format!("../crates/{name}/out"));
+    let folder = Path::new(manifest).join(folder);
+    let archive = folder.join(format!("lib{name}.a"));
+    println!("cargo:rerun-if-changed={}", archive.display());
+    println!("cargo:rustc-link-search=native={}", folder.display());
+    archive
 }
 
 /// The archive of another revision, each of its names with `before_` in front.

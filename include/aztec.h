@@ -1,5 +1,5 @@
-/* Aztec Code (ISO/IEC 24778): the proved library's interface. Link libaztec_c.a, which `rt staticlib aztec_c` writes to
-   target/staticlib. A pointer with its length is a buffer of that many elements; it is never null, and a buffer that is written
+/* Aztec Code (ISO/IEC 24778): the proved library's interface. Link crates/aztec_c/out/libaztec_c.a, which `rt lib` writes in
+   crates/aztec_c. A pointer with its length is a buffer of that many elements; it is never null, and a buffer that is written
    overlaps no other. Every call ends, and touches nothing outside the buffers it was lent. No call needs more than 256 KiB of stack. */
 #ifndef AZTEC_H
 #define AZTEC_H

@@ -4,7 +4,7 @@
 Builds the programs of harness/peers and a harness of its own in target/peers, has the programs take turns on the same symbols, and prints
 tables for docs/SPEED.md: the fastest and the slowest of all runs, eleven in each of three turns, and the ratio of the fastest. A peer whose
 package is missing is left out and named. What a peer read or made wrongly is marked in the tables and counted below them.
-target/staticlib/libaztec_c.a has to be there (`rt staticlib aztec_c`).
+crates/aztec_c/out/libaztec_c.a has to be there (`rt lib` in crates/aztec_c).
 """
 import collections
 import os
@@ -16,7 +16,7 @@ import sys
 
 ROOT = pathlib.Path(__file__).resolve().parent.parent
 SOURCES = ROOT / "harness/peers"
-ARCHIVE = ROOT / "target/staticlib/libaztec_c.a"
+ARCHIVE = ROOT / "crates/aztec_c/out/libaztec_c.a"
 BUILD = ROOT / "target/peers"
 CASES = BUILD / "cases"
 HARNESS = BUILD / "harness/release/harness"
@@ -65,7 +65,7 @@ PEERS = [
 def build_shared():
     """The library's program, and what it shares with the peers'."""
     if not ARCHIVE.exists():
-        sys.exit(f"{ARCHIVE.relative_to(ROOT)} is missing (rt staticlib aztec_c)")
+        sys.exit(f"{ARCHIVE.relative_to(ROOT)} is missing (rt lib in crates/aztec_c)")
     BUILD.mkdir(parents=True, exist_ok=True)
     for made in SHARED:
         said(*C, "-c", "-o", made, SOURCES / f"{made.stem}.c")

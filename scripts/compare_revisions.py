@@ -1,26 +1,29 @@
 #!/usr/bin/env python3
 """Times this tree's corrector, reader and maker beside another revision's: python3 scripts/compare_revisions.py REV
 
-Builds the archive of REV in target/compare, puts `before_` in front of its names, links it beside this tree's into one harness, and has
-the two take turns on the same inputs. Prints tables for a Markdown document: the fastest and the slowest of eleven runs of each, the ratio
+Builds the archive of REV in a folder of its own among the temporary files (a tree of Rattle inside this one would stop `rt ci`), puts
+`before_` in front of its names, links it beside this tree's into one harness, and has the two take turns on the same inputs. Prints tables for a Markdown document: the fastest and the slowest of eleven runs of each, the ratio
 of the fastest, and the median of the turns' ratios; beside libfec's times where that is there (Debian: libfec-dev). The reader has a table
 of grids that it reads and one of grids that it refuses. An answer that isn't the other's, or isn't as due, is printed and ends the script
-with 1. REV's archive is kept for the next time. What REV has like this tree isn't proved again where target/ has it; the rest takes its
-time. REV is older than this tree, or has the same interface: the harness calls both by this tree's.
+with 1. REV's archive is kept for the next time. What REV has like this tree isn't proved again where a check on this machine kept it; the
+rest takes its time. REV has to be written for the kit that is here, and is older than this tree, or has the same interface: the harness
+calls both by this tree's.
 """
 import os
 import pathlib
 import shutil
 import subprocess
 import sys
+import tempfile
 
-# Nothing but target/ shall be written to.
+# Beside out/ nothing here but target/ shall be written to.
 sys.dont_write_bytecode = True
 import bench_peers
 import programs
 
 ROOT = pathlib.Path(__file__).resolve().parent.parent
 BUILD = ROOT / "target/compare"
+BEFORE = pathlib.Path(tempfile.gettempdir()) / "aztec-compare"
 FUNCTIONS = {"aztec_correct", "aztec_encode", "aztec_decode"}
 PROGRAMS = [("git", "Debian: git"), ("tar", "Debian: tar"), ("rt", "the Rattle kit"), ("nm", "Debian: binutils"),
             ("objcopy", "Debian: binutils"), ("cargo", "Rust")]
@@ -47,17 +50,11 @@ def export(commit, folder):
     begun.rename(folder)
 
 
-def lend_proofs(folder):
-    """Copies what this tree has proved. rt goes by the stamps, so these come last."""
-    for part in ("rlib", "stamp"):
-        if (ROOT / "target" / part).exists() and not (folder / "target/stamp").exists():
-            shutil.copytree(ROOT / "target" / part, folder / "target" / part, dirs_exist_ok=True)
-
-
 def static_archive(folder):
-    print(f"rt staticlib aztec_c in {folder.relative_to(ROOT)}", file=sys.stderr)
-    said("rt", "staticlib", "aztec_c", folder=folder, stderr=subprocess.STDOUT)
-    return folder / "target/staticlib/libaztec_c.a"
+    crate = folder / "crates/aztec_c"
+    print(f"rt lib in {crate}", file=sys.stderr)
+    said("rt", "lib", folder=crate, stderr=subprocess.STDOUT)
+    return crate / "out/libaztec_c.a"
 
 
 def rename(archive, renamed):
@@ -78,7 +75,6 @@ def build_before(commit, folder):
     if made_with.exists() and made_with.read_text() == kit:
         return
     export(commit, folder)
-    lend_proofs(folder)
     rename(static_archive(folder), renamed)
     made_with.write_text(kit)
 
@@ -89,7 +85,7 @@ def build_harness(folder):
     if not has_libfec:
         print("libfec is left out: its package is missing (Debian: libfec-dev)")
     features = "revisions,libfec" if has_libfec else "revisions"
-    places = {"AZTEC_LIB_DIR": str(ROOT / "target/staticlib"), "AZTEC_BEFORE_DIR": str(folder)}
+    places = {"AZTEC_BEFORE_DIR": str(folder)}
     command = ["cargo", "build", "--release", "--offline", "--quiet", "--features", features, "--target-dir", BUILD / "harness"]
     said(*command, folder=ROOT / "harness", env={**os.environ, **places})
 
@@ -102,7 +98,7 @@ def print_revisions(commit):
 
 def compare(revision):
     commit = said("git", "rev-parse", "--verify", f"{revision}^{{commit}}").strip()
-    folder = BUILD / commit[:12]
+    folder = BEFORE / commit[:12]
     build_before(commit, folder)
     static_archive(ROOT)
     build_harness(folder)

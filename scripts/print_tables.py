@@ -3,9 +3,10 @@
 
     python3 scripts/print_tables.py > crates/finite_field/src/tables.rt
 
-The gate compares its output with that file; what the entries must be is proved
-in crates/finite_field/specs/Tables.antt, not here.
+The gate compares its output with that file, which stands in rt fmt's layout; what
+the entries must be is proved in crates/finite_field/specs/Tables.antt, not here.
 """
+import textwrap
 
 # Document 01, "Words and checks": the polynomial of each word size, less its leading term.
 POLYNOMIALS = {4: 0b11, 6: 0b11, 8: 0b101101, 10: 0b1001, 12: 0b1101001}
@@ -14,10 +15,13 @@ HEADER = """\
 // The powers of x and the logarithms of words in the fields of the five word sizes: entry k of POWERS_b is x ^ k, entry a of LOGS_b the
 // exponent of the word a (0 has none, and its entry is 0). A function that names a constant array copies it: so each has one function,
 // which the public entries call once and lend from. Printed by scripts/print_tables.py, 16 entries a row, and not laid out by rt fmt.
-ghost use mathlib.Core.Path.{_≡_};
-ghost use Rattle·finite_field·specs.specs.Field.{w4, w6, w8, w10, w12};
-ghost use Rattle·finite_field·specs.specs.Tables.{powers, logs};
+ghost use Rattle.std.specs.Prelude.{◌≡◌};
+ghost use Rattle.finite_field.specs.Field.{w4, w6, w8, w10, w12};
+ghost use Rattle.finite_field.specs.Tables.{powers, logs};
 """
+
+# rt fmt's lines have so many characters at most, and one less where it fills them.
+WIDTH = 100
 
 
 def tables(bits):
@@ -33,17 +37,24 @@ def tables(bits):
     return powers, logs
 
 
+def constant(name, entries):
+    """On one line where it fits, else filled lines."""
+    listed = ", ".join(map(str, entries))
+    head = f"const {name}: [u16; {len(entries)}] = ["
+    line = f"{head}{listed}];"
+    if len(line) <= WIDTH:
+        return line
+    rows = textwrap.fill(f"{listed},", WIDTH - 1, initial_indent="    ", subsequent_indent="    ")
+    return f"{head}\n{rows}\n];"
+
+
 def table(kind, bits, entries):
     name = f"{kind.upper()}_{bits}"
-    rows = [entries[i : i + 16] for i in range(0, len(entries), 16)]
-    body = "\n".join("    " + " ".join(f"{x}," for x in row) for row in rows)
     return f"""
-const {name}: [u16; {len(entries)}] = [
-{body}
-];
+{constant(name, entries)}
 
 pub fn {kind}_{bits}() -> [u16; {len(entries)}]
-    ensures {{ λ r. ⌜ r ≡ {kind} w{bits} ⌝ }}
+    ensures {{ result ≡ {kind} w{bits} }}
 {{
     {name}
 }}

@@ -2,8 +2,8 @@
 """Reads tags that a program of others made: python3 scripts/read_from_peer.py [READ_TAG]
 
 zint (Debian: zint) draws a fixed list of 300 messages, eight kinds in each of the 36 shapes and a ninth in every third; each grid, turned
-or mirrored into a position of its own, is given to read_tag (target/bin/read_tag, by `rt check read_tag`, or the one named), and shape,
-position, counts and message have to be as made. Last line: `300 read, N differ`.
+or mirrored into a position of its own, is given to read_tag (crates/read_tag/out/read_tag, by `rt run` in crates/read_tag, or the one
+named), and shape, position, counts and message have to be as made. Last line: `300 read, N differ`.
 """
 import pathlib
 import random
@@ -14,7 +14,7 @@ import tempfile
 from programs import all_there
 
 MAKER = "zint"
-READ_TAG = pathlib.Path(__file__).parent.parent / "target/bin/read_tag"
+READ_TAG = pathlib.Path(__file__).parent.parent / "crates/read_tag/out/read_tag"
 
 UPPER = b" ABCDEFGHIJKLMNOPQRSTUVWXYZ"
 LOWER = UPPER.lower()
@@ -125,7 +125,7 @@ def main(arguments):
     read_tag, *more = arguments or [READ_TAG]
     if more or str(read_tag).startswith("-"):
         sys.exit(__doc__)
-    if not all_there((MAKER, "Debian: zint"), (read_tag, "rt check read_tag")):
+    if not all_there((MAKER, "Debian: zint"), (read_tag, "rt run in crates/read_tag")):
         return 2
     listed = list(tags())
     differ = [found for tag in listed if (found := difference(read_tag, *tag))]
