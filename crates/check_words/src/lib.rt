@@ -1,5 +1,7 @@
 // Check words: the remainder of the data words, times x^K, by the generator (x + 2^1) .. (x + 2^K). It is made in place in the tail of
 // the block, word by word, so that no buffer but the generator's is wanted.
+#![tactic(auto)]
+
 ghost use Rattle.std.specs.Prelude.{◌≡◌, ◌++◌, ℕ, ◌+◌, ◌-◌, ◌≤◌, ◌<◌, ◌^◌, length, get_or, take, drop, replicate};
 ghost use Rattle.list_laws.specs.Filled.{tabulate};
 ghost use Rattle.finite_field.specs.Xor.{◌⊕◌};

@@ -1,4 +1,6 @@
 // A block whose syndromes are not all 0: the corrections that could make it valid, and whether they are few enough.
+#![tactic(auto)]
+
 ghost use Rattle.std.specs.Prelude.{◌≡◌, ◌≤◌, ◌<◌, ◌^◌, length};
 ghost use Rattle.list_laws.specs.Filled.{tabulate};
 ghost use Rattle.finite_field.specs.Field.{size_of, bits};

@@ -1,0 +1,16 @@
+-- No block is as long as the buffer.
+-- Assumes nothing.
+use Rattle.std.proofs.Common.{arith}
+use Rattle.finite_field.specs.Field.{size_of}
+use Rattle.finite_field.specs.FieldLaws.{most-words}
+use Rattle.check_words.proofs.fill_long.Goals as goal
+
+pub fill_by-requires : goal.fill_by-requires
+fill_by-requires c =
+    let s = c in record {
+      tables_1 = s.requires.tables_1;
+      tables_2 = omega (arith, s.requires.tables_2, most-words (size_of s.args.size));
+      tables_3 = s.requires.tables_2;
+      data_words_in_bounds_1 = s.requires.data_words_in_bounds_1;
+      data_words_in_bounds_2 = s.requires.data_words_in_bounds_2;
+    }

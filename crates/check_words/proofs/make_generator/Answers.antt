@@ -1,0 +1,34 @@
+-- The generator of the first k roots stands in front; the rest is as it was.
+-- Assumes nothing.
+use Rattle.std.proofs.Common.{rules, ◌≡◌, ap, ◌∙◌, arith, length}
+use Rattle.finite_field.specs.Field.{size_of}
+use Rattle.check_words.proofs.Generating.{generating, generating-none, generating-words, generating-next, generating-all}
+use Rattle.check_words.proofs.make_generator.Goals as goal
+
+pub loop-k-init : goal.loop-k-init
+loop-k-init c = (search rules, search rules, generating-none _ _)
+
+pub add_root-requires : goal.add_root-requires
+add_root-requires c =
+    let s = c in
+    let l = c.loop-k in record {
+      tables_1 = s.requires.fact_1;
+      tables_2 = generating-words (size_of s.args.size) s.args.g.now l.k l.invariant.2;
+      k_bound_1 = omega arith;
+      k_bound_2 = omega arith;
+    }
+
+pub loop-k-preserved : goal.loop-k-preserved
+loop-k-preserved c =
+    let s = c in
+    let l = c.loop-k in (
+      search rules,
+      search rules,
+      generating-next (size_of s.args.size) s.args.g.now l.k l.invariant.2 c.add_root.ensures,
+    )
+
+pub returns : goal.returns
+returns c =
+    let s = c in
+    let done : c.loop-k.k ≡ length s.args.g.now = omega arith in
+    c.loop-k.invariant.2 ∙ ap (generating (size_of s.args.size) s.args.g.now) done ∙ generating-all (size_of s.args.size) s.args.g.now

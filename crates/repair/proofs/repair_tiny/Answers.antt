@@ -1,0 +1,13 @@
+-- The work arrays are zeros, and longer than the block.
+-- Assumes nothing.
+use Rattle.repair.proofs.Solving.{work-zeros}
+use Rattle.repair.proofs.repair_tiny.Goals as goal
+
+pub repair_in-requires : goal.repair_in-requires
+repair_in-requires c =
+    let s = c in record {
+      tables_1 = s.requires.fact_1;
+      tables_2 = s.requires.fact_2;
+      tables_3 = s.requires.fact_3;
+      work = work-zeros 64 c.zeros_64-u.ensures c.zeros_64-p.ensures c.zeros_64-q.ensures c.zeros_64-corrections.ensures s.requires.fact_4;
+    }
