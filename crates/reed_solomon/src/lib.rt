@@ -1,4 +1,6 @@
 // The corrector of blocks of words (document 01, "Words and checks" and numbers 31 to 34): the nearest valid block, or a refusal.
+#![tactic(auto)]
+
 ghost use Rattle.std.specs.Prelude.{◌≡◌};
 ghost use Rattle.reed_solomon.specs.Correct.{correct_of};
 

@@ -1,0 +1,57 @@
+-- The words below i are read.
+-- Assumes nothing.
+use Rattle.std.proofs.Common.{T, rules, ◌≡◌, refl, ◌^◌, arith, length, length-set}
+use Rattle.list_laws.specs.Range.{all_but, count_most}
+use Rattle.finite_field.specs.Field.{bits}
+use Rattle.block_code.specs.Nearest.{marked}
+use Rattle.reed_solomon.proofs.Reading.{passes, words-refused, not-a-mark, not-a-word, marked-passes, word-passes, reading-none, reading-next, reading-all}
+use Rattle.reed_solomon.proofs.corrector.read_block.Goals as goal
+use Rattle.reed_solomon.proofs.corrector.read_block.Goals.{else-marks-i-eq0, then-marks-i-eq0+else-words-received}
+
+pub loop-i-init : goal.loop-i-init
+loop-i-init c =
+    let s = c in (search rules, refl, reading-none s.args.words s.args.received.now s.args.marks.now s.args.to.now)
+
+pub returns-then-marks-i-gt1 : goal.returns-then-marks-i-gt1
+returns-then-marks-i-gt1 c s e =
+    let start = c.before.before.before.before.before.before.before in
+    let l = c.loop-i in
+    let received = start.args.received.now in
+    let marks = start.args.marks.now in
+    words-refused s received marks
+    (all_but (length received) _ l.i c.loop-i-test.true (not-a-mark (2 ^ bits s) received marks l.i c.if-marks-i-gt1.true)) (omega arith)
+
+pub returns-then-words-received : goal.returns-then-words-received
+returns-then-words-received c s e =
+    let start = c.before.before.before.before.before.before.before.before.before.before.before in
+    let l = c.loop-i in
+    let received = start.args.received.now in
+    let marks = start.args.marks.now in
+    words-refused s received marks
+    (all_but (length received) _ l.i (omega arith) (not-a-word (2 ^ bits s) received marks l.i c.if-marks-i-eq0.true (omega arith))) (omega arith)
+
+pub overflow_add-e : goal.overflow_add-e
+overflow_add-e c =
+    let start = c in
+    let l = c.loop-i in
+    omega (arith, l.invariant.2.counted, count_most l.i (marked start.args.marks.now))
+
+pub loop-i-preserved : goal.loop-i-preserved
+loop-i-preserved c =
+    let start = c in
+    let l = c.loop-i in
+    let words = start.args.words in
+    let received = start.args.received.now in
+    let marks = start.args.marks.now in
+    let pass : T (passes words received marks l.i) = elim c.if-marks-i-eq0.branch [ then-marks-i-eq0+else-words-received w ↦ word-passes words received marks l.i w.if-marks-i-eq0.true w.if-words-received.false | else-marks-i-eq0 w ↦ marked-passes words received marks l.i (omega (arith, w.if-marks-i-eq0.false)) ] in (
+      search rules,
+      simp length-set (search rules),
+      reading-next words received marks l.invariant.2 (omega arith) (omega arith) (omega arith) pass c.read_word.ensures,
+    )
+
+pub returns : goal.returns
+returns c s e =
+    let start = c.before.before.before.before.before in
+    let l = c.loop-i in
+    let all : l.i ≡ length start.args.received.now = omega arith in
+    reading-all s start.args.words start.args.received.now start.args.marks.now e start.requires.fact_1 all l.invariant.2
