@@ -1,5 +1,7 @@
 // The bit stream's functions under C names, for the comparison in harness/ alone: the library for users is aztec_c. Each has its library
 // function's contract, premises included, which the harness keeps.
+#![tactic(auto)]
+
 ghost use Rattle.std.specs.Prelude.{◌≡◌, ◌≤◌, length};
 ghost use Rattle.std.proofs.lemmas.List.Edits.{sets};
 ghost use Rattle.stream.specs.Stream.{bits_of};
