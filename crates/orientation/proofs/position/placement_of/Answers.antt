@@ -1,14 +1,7 @@
 -- The counts are the matches of the eight positions.
 -- Assumes nothing.
-use borrow.Author.Rules.{rules}
-use mathlib.Core.Path.{◌≡◌, refl, ap, ap₂, ◌∙◌}
-use mathlib.Core.Bool.{Bool}
-use mathlib.Core.List.{List}
+use Rattle.std.proofs.Common.{◌≡◌, refl, ap, ap₂, ◌∙◌, Bool, List, ℕ, ◌≤◌, ◌<◌, arith, eqb, get_or}
 use mathlib.Core.Option.{Option, none, some}
-use Prim.Native.Nat.{ℕ, ◌≤◌, ◌<◌}
-use native.Mathlib.Omega.{arith}
-use lib.Dec.{eqb}
-use lib.ListN.{get_or}
 use Rattle.list_laws.specs.Search.{first_from}
 use Rattle.orientation.specs.declared.position.Placement.TheVariants.{At, Nowhere}
 use Rattle.orientation.specs.Position.{matches, single, position, position_number}
@@ -17,8 +10,7 @@ use Rattle.orientation.specs.Counting.{Counted, position-same}
 use Rattle.orientation.specs.Greatest.{most, most-same}
 use Rattle.orientation.specs.Masks.{mask_from, mask-same}
 use Rattle.orientation.specs.Placement.{best_matches, best_positions, placement_for, placement_of, best-few}
-use Rattle.orientation.proofs.position.placement_of.Statement.{statement}
-use Rattle.orientation.proofs.position.placement_of.Tie as tie
+use Rattle.orientation.proofs.position.placement_of.Goals as goal
 
 module _ (f : Bool) (n : ℕ) (g counts : List ℕ) (counted : Counted f n g counts 8) where
   placed : {p : ℕ} → p ≡ position_number (first_from (single (λ q. get_or counts q 0)) 0 8) → p < 8 → At p ≡ placement_of f n g
@@ -44,48 +36,24 @@ module _ (f : Bool) (n : ℕ) (g counts : List ℕ) (counted : Counted f n g cou
       go none is e = ap₂ (λ (x y : ℕ). Nowhere x y) (matched k) (masked k l)
       go (some q) is e = absurd (omega (arith, (found-best f n g is).lawful))
 
-count-matches-requires : tie.Need-count-matches-requires
-count-matches-requires c κs = search rules
+pub returns-then-p-lt8 : goal.returns-then-p-lt8
+returns-then-p-lt8 c =
+    let a = c.args in
+    let x = c.count_matches-counts in
+    placed a.full a.n a.grid.now x.result x.ensures c.position_in-p.ensures c.if-p-lt8.true
 
-position-in-requires : tie.Need-position-in-requires
-position-in-requires c κs = search rules
-
-returns : tie.Need-returns
-returns c =
-    let a = c.before.before.before.before.before.args in
-    let x = c.before.before.before.count-matches in
-    placed a.full a.n a.grid.now x.result x.ensures c.before.position_in.ensures c.if1.true
-
-most-of-requires : tie.Need-most-of-requires
-most-of-requires c κs = search rules
-
-positions-with-requires : tie.Need-positions-with-requires
-positions-with-requires c κs = search rules
-
-cast-matched : tie.Need-overflow-cast-matched
-cast-matched c =
-    let s = c.before.before.before.before.before in
-    let a = s.before.before.before.before.args in
-    let x = s.before.before.count-matches in
+pub overflow_cast-matched : goal.overflow_cast-matched
+overflow_cast-matched c =
+    let s = c in
+    let a = s.args in
+    let x = s.count_matches-counts in
     let few = best-few a.full a.n a.grid.now in
-    omega (arith, matched a.full a.n a.grid.now x.result x.ensures c.before.before.most-of.ensures)
+    omega (arith, matched a.full a.n a.grid.now x.result x.ensures c.most_of-most.ensures)
 
-returns-2 : tie.Need-returns-2
-returns-2 c =
-    let s = c.before.before.before.before.before in
-    let a = s.before.before.before.before.args in
-    let x = s.before.before.count-matches in
-    unplaced a.full a.n a.grid.now x.result x.ensures s.position_in.ensures
-    c.before.before.before.before.if1.false c.before.before.most-of.ensures c.positions-with.ensures
-
-pub placement-of-spec : {M : Type 1} → statement M
-placement-of-spec =
-    tie.close
-    (tie.spec
-    count-matches-requires
-    position-in-requires
-    returns
-    most-of-requires
-    positions-with-requires
-    cast-matched
-    returns-2)
+pub returns : goal.returns
+returns c =
+    let s = c in
+    let a = s.args in
+    let x = s.count_matches-counts in
+    unplaced a.full a.n a.grid.now x.result x.ensures s.position_in-p.ensures
+    c.if-p-lt8.false c.most_of-most.ensures c.positions_with-positions.ensures
