@@ -1,5 +1,5 @@
 // A view of the corrected words: the slice, the word size and the place of the next bit (document 01, "Drop the stuffed bits and read
-// items"). The functions over it are thin, since each is proved by hand; the work is `items::item_at`'s.
+// items"). The functions over it are thin; the work is `items::item_at`'s.
 ghost use Rattle.std.specs.Prelude.{◌≡◌, ◌-◌};
 ghost use Rattle.stream.specs.Items as spec;
 ghost use Rattle.item_reader.specs.Places.{rest, Ready};
@@ -31,7 +31,7 @@ pub fn item<'a>(view: View<'a>, left: usize, set: usize) -> Found
     items::item_at(view.words, view.size, view.place, left, set)
 }
 
-// From plain parameters: whoever calls this one needs no proof by hand.
+// From plain parameters, with no view to make first.
 pub fn read_item(words: &[u16], size: usize, place: Place, left: usize, set: usize) -> Found
     requires { Ready words.now size place.word place.bit left set }
     ensures { result ≡ spec.item_at set (rest (size - 1) words.now place.word place.bit) }

@@ -1,8 +1,6 @@
 -- The loop's invariant: no code passed is b's. Of the table's numbers only b stands for b.
 -- Assumes nothing.
-use Rattle.std.proofs.Common.{ℕ, ◌-◌, ◌≤◌, ◌<◌, ◌≡◌, arith, get_or, below_more, rules}
-use Rattle.stream.specs.Codes.{chars, table}
-use Rattle.stream.proofs.CodeTables.{numbers, code-found, code-none}
+use Rattle.std.proofs.Common.{ℕ, ◌-◌, ◌≤◌, ◌<◌, ◌≡◌, get_or}
 use Rattle.stream.proofs.codes.code_in.Given as goal
 
 abbrev pub invariant-loop-code : goal.invariant-loop-code

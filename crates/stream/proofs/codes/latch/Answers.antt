@@ -1,6 +1,6 @@
 -- The tables' numbers are those of the latches' bits, computed for all pairs of sets.
 -- Assumes nothing.
-use Rattle.std.proofs.Common.{rules, sym, arith}
+use Rattle.std.proofs.Common.{rules, sym}
 use Rattle.list_laws.specs.Filled.{tabulate}
 use Rattle.stream.specs.Bits.{bits, value}
 use Rattle.stream.specs.Codes.{chars, table, row, width, position}
@@ -15,6 +15,6 @@ returns c =
     let a = c.args in
     let length_at = pair-at latch_length a.from a.to (search rules) (search rules) in
     let value-at = pair-at latch_value a.from a.to (search rules) (search rules) in record {
-        to_value = latch-number a.from a.to _ _ (sym length_at) (sym value-at);
-        bits_bound = rw length_at (latch-small a.from a.to (search rules) (search rules)).0;
+      to_value = latch-number a.from a.to _ _ (sym length_at) (sym value-at);
+      bits_bound = rw length_at (latch-small a.from a.to (search rules) (search rules)).0;
     }
