@@ -1,5 +1,7 @@
 // A symbol drawn (document 01, "Modules and shapes"): the fixed pattern, and over it the orientation modules, the mode words and the block,
 // each through a table of places.
+#![tactic(auto)]
+
 mod fixed;
 
 ghost use Rattle.std.specs.Prelude.{◌≡◌, ℕ, ◌+◌, ◌*◌, ◌-◌, ◌≤◌, ◌<◌, length, get_or};

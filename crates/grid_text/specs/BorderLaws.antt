@@ -1,6 +1,6 @@
 -- Where a module of an inner grid stands, and that an inner grid is no larger.
 -- Assumes nothing.
-use Rattle.std.specs.Prelude.{◌≡◌, true, false, List, ℕ, ◌+◌, ◌*◌, ◌-◌, ◌/◌, ◌%◌, ◌≤◌, ◌<◌, T}
+use Rattle.std.specs.Prelude.{◌≡◌, true, false, List, ℕ, ◌+◌, ◌*◌, ◌/◌, ◌%◌, ◌≤◌, ◌<◌, T}
 use Rattle.std.proofs.Math.Path.{sym}
 use Rattle.std.proofs.Common.{mul-le-mul, div-lt_iff_lt-mul, mod-lt, arith}
 use Rattle.list_laws.specs.Range.{all_of, all_but}

@@ -1,4 +1,6 @@
 // Modules out of text: a plain portable bitmap, or rows of 0, 1, 2 and ?.
+#![tactic(auto)]
+
 pub mod bitmap;
 pub mod border;
 pub mod kinds;

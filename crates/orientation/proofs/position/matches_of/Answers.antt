@@ -1,0 +1,50 @@
+-- The matches of the first k.
+-- Assumes nothing.
+use Rattle.std.proofs.Common.{◌≡◌, sym, ap, ◌∙◌, ◌*◌, ◌<◌, arith, get_or, eq-eqb, ne_eqb}
+use Rattle.list_laws.specs.Range.{count_none, count_yes, count_no, count_most}
+use Rattle.symbol.specs.CorePlaces.{orientation-lt}
+use Rattle.symbol.specs.Drawing.{orientation_bits}
+use Rattle.symbol.specs.Positions.{place_in}
+use Rattle.orientation.specs.Position.{matches}
+use Rattle.orientation.proofs.position.matches_of.Invariants.{hit}
+use Rattle.orientation.proofs.position.matches_of.Goals as goal
+use Rattle.orientation.proofs.position.matches_of.Goals.{In-loop-k, else-grid-at, then-grid-at}
+
+upright-lt : (c : In-loop-k)
+    → (let a = c.args in get_or a.upright.now c.loop-k.k 0 < a.n * a.n)
+upright-lt c =
+    let s = c in
+    let k = c.loop-k.k in
+    omega (arith, s.requires.fact_2 k (omega arith), orientation-lt s.args.full s.args.n s.requires.fact_1.0 k (omega arith))
+
+pub loop-k-init : goal.loop-k-init
+loop-k-init c = (omega arith, sym (count_none _))
+
+pub place_in-at-requires : goal.place_in-at-requires
+place_in-at-requires c = let s = c in (upright-lt (goal.at.place_in-at-requires c).In-loop-k, s.requires.fact_1.1, s.requires.fact_1.3)
+
+pub bounds-grid-at : goal.bounds-grid-at
+bounds-grid-at c = omega (arith, c.place_in-at.ensures.1, c.requires.fact_1.2)
+
+pub overflow_add-matched : goal.overflow_add-matched
+overflow_add-matched c =
+    let l = c.loop-k in
+    let a = c.args in
+    omega (arith, l.invariant.1, count_most l.k (hit a.full a.n a.grid.now a.p))
+
+pub loop-k-preserved : goal.loop-k-preserved
+unfolding orientation_bits
+loop-k-preserved c =
+    let l = c.loop-k in
+    let s = c in
+    let a = s.args in
+    let place = c.place_in-at.ensures.0 ∙ ap (place_in a.n a.p) (s.requires.fact_2 l.k (omega arith)) in
+    let at = ap (λ x. get_or a.grid.now x 0) place in
+    let test = hit a.full a.n a.grid.now a.p in (
+      omega arith,
+      elim c.if-grid-at.branch [ then-grid-at w ↦ w.matched-is ∙ count_yes l.k test l.invariant.1 (eq-eqb _ _ (sym at ∙ w.if-grid-at.true)) | else-grid-at w ↦ w.matched-is ∙ count_no l.k test l.invariant.1 (ne_eqb _ _ (λ e. w.if-grid-at.false (at ∙ e))) ],
+    )
+
+pub returns : goal.returns
+unfolding matches
+returns c = let e : c.loop-k.k ≡ 12 = omega arith in rw e at c.loop-k.invariant.1
