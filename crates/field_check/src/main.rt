@@ -1,11 +1,13 @@
 // Multiplies every pair of words of each field and prints a checksum for each word size, to be held to what polynomial products
 // modulo the standard's polynomials give (`stdout`, from scripts/field_checksums.py), and to time a product.
+#![tactic(auto)]
+
 ghost use Rattle.std.specs.Prelude.{◌<◌, ◌^◌};
 ghost use Rattle.finite_field.specs.Field.{size_of, bits, Word};
 ghost use Rattle.finite_field.specs.Tables.{Tables};
 
 use finite_field::tables;
-use libc::STDOUT_FILENO;
+use std::io;
 
 // The checksum `sum`, carried on over the products of a with each word.
 fn row(size: u32, powers: &[u16], logs: &[u16], a: u16, sum: u64) -> u64
@@ -34,19 +36,17 @@ fn checksum(size: u32, powers: &[u16], logs: &[u16]) -> u64
     h % 4294967296
 }
 
-fn report(size: u32, powers: &[u16], logs: &[u16])
+fn report(rt: &impl Print, size: u32, powers: &[u16], logs: &[u16]) -> io::Result<()>
     requires { Tables (size_of size) powers.now logs.now }
 {
-    io::print_decimal(STDOUT_FILENO, size as u64);
-    io::write_all(STDOUT_FILENO, b" ");
-    io::print_decimal(STDOUT_FILENO, checksum(size, powers, logs));
-    io::write_all(STDOUT_FILENO, b"\n");
+    let sum = checksum(size, powers, logs);
+    println!(rt; "{size} {sum}")
 }
 
-fn main() {
-    report(4, &tables::powers_4(), &tables::logs_4());
-    report(6, &tables::powers_6(), &tables::logs_6());
-    report(8, &tables::powers_8(), &tables::logs_8());
-    report(10, &tables::powers_10(), &tables::logs_10());
-    report(12, &tables::powers_12(), &tables::logs_12());
+fn main(rt: HostRuntime) -> io::Result<()> {
+    report(&rt, 4, &tables::powers_4(), &tables::logs_4())?;
+    report(&rt, 6, &tables::powers_6(), &tables::logs_6())?;
+    report(&rt, 8, &tables::powers_8(), &tables::logs_8())?;
+    report(&rt, 10, &tables::powers_10(), &tables::logs_10())?;
+    report(&rt, 12, &tables::powers_12(), &tables::logs_12())
 }

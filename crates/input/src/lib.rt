@@ -1,35 +1,54 @@
-// A buffer filled from a file or a pipe, in as many reads as it takes.
-ghost use Rattle.std.specs.Prelude.{◌≤◌, length};
+// What the programs share: a buffer filled from a file or a pipe, in as many reads as it takes; how many arguments there are; and how it is
+// said that the system failed.
+#![tactic(auto)]
 
-// What was read: how many bytes, and whether a read failed.
+ghost use Rattle.std.specs.Prelude.{◌≡◌, ◌≤◌, ◌<◌, length, take, IsNone, IsSome};
+ghost use Rattle.std.specs.Io.KnownBytes.{Consumes, IsAtEnd};
+
+use std::env::FillError;
+use std::io;
+use std::io::{Read, Write};
+use std::rt::Env;
+
+// What was read: how many bytes, and the error of the read that failed, if one did.
 #[derive(Drop)]
 pub struct Filled {
     pub length: usize,
-    pub failed: bool,
+    pub failed: Option<io::Error>,
 }
 
-fn read_once(fd: i32, rest: &mut [u8]) -> Filled
-    ensures { result.length ≤ length rest.new }
+fn read_once<R: Read>(reader: &mut R, rest: &mut [u8]) -> Filled
+    ensures length { result.length ≤ length rest.new }
+    ensures bytes { Consumes (R.remaining reader.old) (R.remaining reader.new) (take result.length rest.new) }
+    ensures failure { IsSome result.failed → result.length ≡ 0 }
+    ensures end { IsNone result.failed → result.length ≡ 0 → 0 < length rest.new → IsAtEnd (R.remaining reader.new) }
 {
-    let got = libc::read(fd, rest);
-    Filled {
-        length: io::count(got, rest),
-        failed: got < 0,
+    match reader.read(rest) {
+        Ok(length) => Filled {
+            length,
+            failed: None,
+        },
+        Err(error) => Filled {
+            length: 0,
+            failed: Some(error),
+        },
     }
 }
 
 // Reads until the buffer is full, the input ends or a read fails. So a buffer that isn't full holds the input's end, wherever the reads
 // ended.
-pub fn fill(fd: i32, buffer: &mut [u8]) -> Filled
-    ensures { result.length ≤ length buffer.new }
+pub fn fill<R: Read>(reader: &mut R, buffer: &mut [u8]) -> Filled
+    ensures length { result.length ≤ length buffer.new }
+    ensures bytes { Consumes (R.remaining reader.old) (R.remaining reader.new) (take result.length buffer.new) }
+    ensures end { IsNone result.failed → result.length < length buffer.new → IsAtEnd (R.remaining reader.new) }
 {
     let mut at = 0;
     while at < buffer.len() {
-        let part = read_once(fd, &mut buffer[at..]);
-        if part.failed {
+        let part = read_once(reader, &mut buffer[at..]);
+        if part.failed.is_some() {
             return Filled {
                 length: at,
-                failed: true,
+                failed: part.failed,
             };
         }
         if part.length == 0 {
@@ -39,6 +58,38 @@ pub fn fill(fd: i32, buffer: &mut [u8]) -> Filled
     }
     Filled {
         length: at,
-        failed: false,
+        failed: None,
     }
+}
+
+// What the system says of an error, without the number that std puts behind it: `No such file or directory`.
+fn words_of<'a>(error: &io::Error, text: &'a mut [u8; 128]) -> &'a str {
+    let mut room: &mut [u8] = text;
+    let cut = write!(room, "{error}").is_err();
+    let left = if cut { 0 } else { room.len() };
+    let length = text.len().saturating_sub(left);
+    let Ok(said) = str::from_utf8(&text[..length]) else {
+        return "";
+    };
+    match said.split_once(" (os error ") {
+        Some((words, _)) => words,
+        None => said,
+    }
+}
+
+// Says on standard error what failed and why, as `sample.bin: No such file or directory`. Where that can't be written, nothing is said.
+pub fn fail(rt: &impl Eprint, what: &str, error: &io::Error) {
+    let mut text = [0u8; 128];
+    let words = words_of(error, &mut text);
+    let _ = eprintln!(rt; "{what}: {words}");
+}
+
+// How many arguments there are, with the program's name.
+pub fn argument_count(rt: &impl Env) -> usize {
+    for i in 0..usize::MAX {
+        if let Err(FillError::NotPresent) = rt.arg(i, &mut []) {
+            return i;
+        }
+    }
+    usize::MAX
 }
