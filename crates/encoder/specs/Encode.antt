@@ -1,7 +1,7 @@
 -- What the encoder answers, and the grid buffer afterwards (document 01, "Numbers that come back", 1 to 4): the symbol of the message in
 -- its shape, or a refusal and the buffer as it was.
 -- Assumes nothing.
-use Rattle.std.specs.Prelude.{Bool, cond, List, ◌++◌, ℕ, ◌+◌, ◌*◌, ◌-◌, eqb, leb, length}
+use Rattle.std.specs.Prelude.{Bool, cond, List, ◌++◌, ℕ, ◌*◌, ◌-◌, eqb, leb, length}
 use Rattle.encoder.specs.declared.Encoded.{Encoded}
 use Rattle.finite_field.specs.Field.{size_of}
 use Rattle.block_code.specs.CheckWords.{check_words_of}

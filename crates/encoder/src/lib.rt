@@ -1,4 +1,6 @@
 // The encoder (document 01's maker): a message and a check percentage to the symbol in the first listed shape that fits.
+#![tactic(auto)]
+
 ghost use Rattle.std.specs.Prelude.{◌≡◌};
 ghost use Rattle.encoder.specs.Encode.{encode_of};
 ghost use Rattle.encoder.specs.Plan.{plan_of};

@@ -1,6 +1,6 @@
 -- The plan's refusal, the short buffer, the symbol.
 -- Assumes nothing.
-use Rattle.std.proofs.Common.{rules, ◌≡◌, sym, ap, ◌∙◌, subst, List, ℕ, ◌*◌, ◌≤◌, ◌<◌, arith, length}
+use Rattle.std.proofs.Common.{◌≡◌, sym, ap, ◌∙◌, subst, List, ℕ, ◌*◌, ◌≤◌, ◌<◌, arith, length}
 use Rattle.stream.specs.Below.{below_of}
 use Rattle.symbol.specs.Shapes.{is_full, layers}
 use Rattle.symbol.specs.Drawing.{area}
@@ -35,8 +35,8 @@ returns-then-answer-ne0 c =
     let p = (goal.at.returns-then-answer-ne0 c).After-plan-answer in
     let a = (start p).args in
     let e = encode-refused (message p) a.percent a.grid.now (λ z. c.if-answer-ne0.true (ap (λ r. r.number) (planned p) ∙ z)) in record {
-        value = planned p ∙ sym (ap (λ r. r.answer) e);
-        grid_after = sym (ap (λ r. r.grid) e);
+      value = planned p ∙ sym (ap (λ r. r.answer) e);
+      grid_after = sym (ap (λ r. r.grid) e);
     }
 
 pub overflow_mul-side : goal.overflow_mul-side
@@ -49,8 +49,8 @@ returns-then-grid-side c =
     let e =
     encode-short (message p) a.percent a.grid.now (sym (ap (λ r. r.number) (planned p)) ∙ c.if-answer-ne0.false)
     (subst (λ r. length a.grid.now < r.side * r.side) (planned p) c.if-grid-side.true) in record {
-        value = c.refused.ensures ∙ sym (ap (λ r. r.answer) e);
-        grid_after = sym (ap (λ r. r.grid) e);
+      value = c.refused.ensures ∙ sym (ap (λ r. r.answer) e);
+      grid_after = sym (ap (λ r. r.grid) e);
     }
 
 -- the message is drawn in the shape that the answer names
@@ -82,8 +82,8 @@ returns c =
     let e =
     encode-made (message p) a.percent a.grid.now (sym (ap (λ r. r.number) (planned p)) ∙ zero d)
     (subst (λ r. r.side * r.side ≤ length a.grid.now) (planned p) (room d)) in record {
-        value = planned p ∙ sym (ap (λ r. r.answer) e);
-        grid_after = c.draw_message.ensures
+      value = planned p ∙ sym (ap (λ r. r.answer) e);
+      grid_after = c.draw_message.ensures
           ∙ ap (λ L. drawn_message (message p) (is_full (answer p).shape) L a.grid.now) d.layers_of-layers.ensures
           ∙ ap (λ r. drawn_message (message p) (is_full r.shape) (layers r.shape) a.grid.now) (planned p)
           ∙ sym (ap (λ r. r.grid) e);

@@ -1,6 +1,6 @@
 -- The numbers 1 and 2 in their order, then the search.
 -- Assumes nothing.
-use Rattle.std.proofs.Common.{rules, eq-eqb, ne_eqb, lt-ltb, le-ltb}
+use Rattle.std.proofs.Common.{eq-eqb, ne_eqb, lt-ltb, le-ltb}
 use Rattle.encoder.specs.Plan.{plan_of}
 use Rattle.encoder.proofs.plan.Goals as goal
 

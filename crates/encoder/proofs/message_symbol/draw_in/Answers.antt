@@ -1,6 +1,6 @@
 -- The fronts of the two buffers are as long as the shape says.
 -- Assumes nothing.
-use Rattle.std.proofs.Common.{rules, ◌≡◌, sym, ◌∙◌, ◌≤◌, arith, length, take, length-take-le}
+use Rattle.std.proofs.Common.{◌≡◌, sym, ◌∙◌, ◌≤◌, arith, length, take, length-take-le}
 use Rattle.symbol.specs.DataPlaces.{most-layers}
 use Rattle.symbol.specs.Places.{run-most}
 use Rattle.encoder.specs.EncodeLaws.{words-all}
@@ -45,7 +45,7 @@ pub draw_with-requires : goal.draw_with-requires
 draw_with-requires c =
     let m = (goal.at.draw_with-requires c).After-mode_run_of-run in
     let a = start m in record {
-        fitting_1 = a.requires.fitting_1;
-        fitting_2 = a.requires.fitting_2;
-        words_len = (block-length m ∙ m.words_of-n.ensures, mode-length m ∙ m.mode_run_of-run.ensures);
+      fitting_1 = a.requires.fitting_1;
+      fitting_2 = a.requires.fitting_2;
+      words_len = (block-length m ∙ m.words_of-n.ensures, mode-length m ∙ m.mode_run_of-run.ensures);
     }

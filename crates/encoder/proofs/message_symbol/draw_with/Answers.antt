@@ -1,6 +1,6 @@
 -- What is drawn is the message's block and mode words.
 -- Assumes nothing.
-use Rattle.std.proofs.Common.{rules, ap, ap₂, ◌∙◌}
+use Rattle.std.proofs.Common.{ap, ap₂, ◌∙◌}
 use Rattle.symbol.specs.Drawing.{drawn}
 use Rattle.encoder.specs.ModeMessage.{mode_codewords}
 use Rattle.encoder.specs.Encode.{drawn_message}

@@ -1,6 +1,6 @@
 -- The words at the front are the message's, and the check words are theirs.
 -- Assumes nothing.
-use Rattle.std.proofs.Common.{rules, ◌≡◌, subst, sym, ap, ◌∙◌, List, ℕ, ◌^◌, ◌<◌, arith, length, take}
+use Rattle.std.proofs.Common.{◌≡◌, subst, sym, ap, ◌∙◌, List, ℕ, ◌^◌, ◌<◌, arith, length, take}
 use lib.Seq.{sets, length-sets}
 use Rattle.finite_field.specs.Field.{bits, size_of}
 use Rattle.block_code.specs.Block.{Words}
@@ -61,11 +61,11 @@ fill_check_words-requires c =
     let w = (goal.at.fill_check_words-requires c).After-write_words in
     let a = start w in
     let e = (sized w).word_size_of-size.ensures in record {
-        size_value_1 = ap (λ b. bits (size_of b)) e ∙ size_is a.args.layers ∙ sym e;
-        size_value_2 = omega (arith, length_last w, a.requires.fact_1.checks);
-        size_value_3 = subst (λ b. length (last w) < 2 ^ b) (sym e) (omega (arith, length_last w, words-fit a.args.full a.args.layers a.requires.fact_1.shaped));
-        words = subst (λ b. Words (size_of b) (take a.args.data_words (last w))) (sym e)
-              (subst (Words (size_of (word_size a.args.layers))) (sym (front w)) (data-words (message w) a.args.layers));
+      size_value_1 = ap (λ b. bits (size_of b)) e ∙ size_is a.args.layers ∙ sym e;
+      size_value_2 = omega (arith, length_last w, a.requires.fact_1.checks);
+      size_value_3 = subst (λ b. length (last w) < 2 ^ b) (sym e) (omega (arith, length_last w, words-fit a.args.full a.args.layers a.requires.fact_1.shaped));
+      words = subst (λ b. Words (size_of b) (take a.args.data_words (last w))) (sym e)
+          (subst (Words (size_of (word_size a.args.layers))) (sym (front w)) (data-words (message w) a.args.layers));
     }
 
 pub returns : goal.returns

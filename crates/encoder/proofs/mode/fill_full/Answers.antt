@@ -1,9 +1,8 @@
 -- Four words of 4 bits, and their check words.
 -- Assumes nothing.
-use Rattle.std.proofs.Common.{rules, ◌≡◌, refl, sym, ap, ◌∙◌, true, List, ℕ, ◌+◌, ◌*◌, ◌-◌, ◌/◌, ◌%◌, arith, length, take, set, length-set}
-use Rattle.symbol.specs.Places.{mode_run}
+use Rattle.std.proofs.Common.{◌≡◌, refl, ◌∙◌, true, List, ℕ, ◌+◌, ◌*◌, ◌-◌, ◌/◌, ◌%◌, arith, length, take, set, length-set}
 use Rattle.encoder.specs.ModeMessage.{mode_data, mode_checks}
-use Rattle.encoder.specs.ModeLaws.{stored-four, four-words, mode-filled, length-mode-words}
+use Rattle.encoder.specs.ModeLaws.{stored-four, four-words, mode-filled}
 use Rattle.encoder.proofs.mode.fill_full.Goals as goal
 use Rattle.encoder.proofs.mode.fill_full.Goals.{After-slice_known-2-1, Start}
 
@@ -24,10 +23,10 @@ front-stored a = let v = value a in stored-four a.args.words.now (v / 4096 % 16)
 pub fill_check_words-requires : goal.fill_check_words-requires
 fill_check_words-requires c =
     let a = c in record {
-        size_value_1 = refl;
-        size_value_2 = simp length-set (omega (arith, a.requires.4));
-        size_value_3 = simp length-set (omega (arith, a.requires.4));
-        words = four-words a.args.words.now _ _ _ _ (omega (arith, a.requires.4));
+      size_value_1 = refl;
+      size_value_2 = simp length-set (omega (arith, a.requires.4));
+      size_value_3 = simp length-set (omega (arith, a.requires.4));
+      words = four-words a.args.words.now _ _ _ _ (omega (arith, a.requires.4));
     }
 
 abbrev start : After-slice_known-2-1 → Start

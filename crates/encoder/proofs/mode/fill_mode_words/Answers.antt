@@ -1,6 +1,6 @@
 -- The two families.
 -- Assumes nothing.
-use Rattle.std.proofs.Common.{rules, subst, sym, ap, ◌∙◌, Bool, ◌≤◌}
+use Rattle.std.proofs.Common.{subst, sym, ap, ◌∙◌, Bool, ◌≤◌}
 use Rattle.symbol.specs.Shapes.{most_words, most_layers}
 use Rattle.symbol.specs.Places.{mode_run}
 use Rattle.encoder.specs.ModeMessage.{mode_codewords}

@@ -1,6 +1,6 @@
 -- The words of the size before are those of the same size.
 -- Assumes nothing.
-use Rattle.std.proofs.Common.{rules, sym, ap, ◌∙◌}
+use Rattle.std.proofs.Common.{sym, ap, ◌∙◌}
 use Rattle.stream_writer.specs.Encoding.{words_needed}
 use Rattle.encoder.proofs.planning.count_at.Goals as goal
 

@@ -1,11 +1,11 @@
 -- What is left of the search is the whole search's answer.
 -- Assumes nothing.
-use Rattle.std.proofs.Common.{◌≡◌, refl, sym, ap, ◌∙◌, true, ◌+◌, ◌-◌, ◌≤◌, ◌<◌, arith, ltb}
+use Rattle.std.proofs.Common.{◌≡◌, refl, sym, ap, ◌∙◌, true, ◌+◌, ◌-◌, ◌<◌, arith, ltb}
 use Rattle.list_laws.specs.Search.{first_from, first-here, first_next, first-none}
 use Rattle.stream.specs.Below.{Bytes, below_of}
 use Rattle.stream_writer.specs.Encoding.{words_needed}
 use Rattle.symbol.specs.Shapes.{word-size-range}
-use Rattle.encoder.specs.Plan.{fits, listed, fits_listed, planned_for}
+use Rattle.encoder.specs.Plan.{fits, fits_listed, planned_for}
 use Rattle.encoder.specs.PlanLaws.{fit_words, Tried, tried-layers, tried-fits, tried-answer}
 use Rattle.encoder.proofs.planning.first_fit.Goals as goal
 use Rattle.encoder.proofs.planning.first_fit.Goals.{After-count_at-counted, At-loop-i, Start, Then-fits}
@@ -25,8 +25,8 @@ word_size_of-requires c = tt
 pub count_at-counted-requires : goal.count_at-counted-requires
 count_at-counted-requires c =
     let b = word-size-range c.layers_of-layers.result in record {
-        fact_1 = (omega (arith, b, c.word_size_of.ensures), omega (arith, b, c.word_size_of.ensures));
-        fact_2 = c.loop-i.invariant.1;
+      fact_1 = (omega (arith, b, c.word_size_of.ensures), omega (arith, b, c.word_size_of.ensures));
+      fact_2 = c.loop-i.invariant.1;
     }
 
 -- the shape that is tried

@@ -1,6 +1,6 @@
 -- The tests of `fits`, and that nothing runs over.
 -- Assumes nothing.
-use Rattle.std.proofs.Common.{rules, sym, ap, ◌*◌, ◌≤◌, arith}
+use Rattle.std.proofs.Common.{sym, ap, ◌*◌, ◌≤◌, arith}
 use Rattle.symbol.specs.Shapes.{most_words}
 use Rattle.encoder.specs.Plan.{least_check}
 use Rattle.encoder.specs.PlanLaws.{words-most, check-most, too_few, enough}

@@ -1,6 +1,6 @@
 -- The two parts of the list.
 -- Assumes nothing.
-use Rattle.std.proofs.Common.{rules, lt-ltb, le-ltb}
+use Rattle.std.proofs.Common.{lt-ltb, le-ltb}
 use Rattle.encoder.specs.Plan.{listed}
 use Rattle.encoder.proofs.planning.listed.Goals as goal
 

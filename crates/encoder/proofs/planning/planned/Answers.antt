@@ -1,7 +1,6 @@
 -- The fields of an answer; all are small.
 -- Assumes nothing.
-use Rattle.std.proofs.Common.{rules, ap₂, ℕ, ◌-◌, arith}
-use Rattle.symbol.specs.Shapes.{side}
+use Rattle.std.proofs.Common.{ap₂, ℕ, ◌-◌, arith}
 use Rattle.encoder.specs.PlanLaws.{words-most, sides-most}
 use Rattle.encoder.proofs.planning.planned.Goals as goal
 
