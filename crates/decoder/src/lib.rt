@@ -1,4 +1,6 @@
 // The decoder (document 01's reader): a sampled grid to its message.
+#![tactic(auto)]
+
 ghost use Rattle.std.specs.Prelude.{◌≡◌};
 ghost use Rattle.decoder.specs.Decode.{decode_of};
 

@@ -1,5 +1,7 @@
 // A grid's way through the stages (document 01, "How a grid is read"), up to the block that says a message. It ends in an outcome that says
 // what its last stage knew; the decoder's answer is drawn from it.
+#![tactic(auto)]
+
 pub mod block;
 pub mod counts;
 pub mod grid;
