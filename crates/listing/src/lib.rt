@@ -1,4 +1,6 @@
 // The print run: a line for each record of 32 bytes (document 01, "The print run").
+#![tactic(auto)]
+
 mod decimal;
 mod fields;
 

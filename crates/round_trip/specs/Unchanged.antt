@@ -6,7 +6,6 @@ use Rattle.std.proofs.Math.Path.{ap, ap₂, subst}
 use mathlib.Core.List.{List, [], ◌∷◌, ◌++◌}
 use Rattle.std.proofs.Math.ListN.{length}
 use Rattle.stream.specs.Below.{Bytes}
-use Rattle.symbol.specs.GridWords.{unread}
 use Rattle.encoder.specs.Plan.{plan_of}
 use Rattle.decoder.specs.declared.Decoded.{Decoded}
 use Rattle.reading_back.specs.ReadsBack.{made_tag, Shows, read_back}

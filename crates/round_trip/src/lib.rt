@@ -1,4 +1,6 @@
 // Demand 3 at work: a tag is made, put in a position, changed, and read. The reading-back theorem is a promise of the function.
+#![tactic(auto)]
+
 ghost use Rattle.std.specs.Prelude.{◌≡◌, ◌%◌, ◌≤◌, ◌<◌, length};
 ghost use Rattle.round_trip.specs.RoundTrip.{round_trip_in, round_trip_of, ReadsBack};
 ghost use Rattle.round_trip.specs.Unchanged.{ReadsUnchanged};
