@@ -35,7 +35,7 @@ fn write_shape(rt: &impl Print, shape: u32) -> io::Result<()> {
 }
 
 // Shape, position, the two counts and the length.
-fn write_answer(rt: &impl Print, answer: &Decoded) -> io::Result<()> {
+fn write_answer(rt: &impl Print, answer: Decoded) -> io::Result<()> {
     write_shape(rt, answer.shape)?;
     write_field(rt, ", position ", answer.position)?;
     write_field(rt, ", unread words ", answer.unread)?;
@@ -47,7 +47,7 @@ fn write_answer(rt: &impl Print, answer: &Decoded) -> io::Result<()> {
 fn write_tag(rt: &impl Print, answer: Decoded, message: &[u8]) -> io::Result<()>
     requires { answer.length ≤ length message.now }
 {
-    write_answer(rt, &answer)?;
+    write_answer(rt, answer)?;
     let length = answer.length as usize;
     rt.write_all(&message[..length])?;
     println!(rt)
