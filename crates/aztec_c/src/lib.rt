@@ -1,4 +1,6 @@
 // The interface for C and Rust (include/aztec.h), thin: each function is a library's entry under its C name, with the same contract.
+#![tactic(auto)]
+
 ghost use Rattle.std.specs.Prelude.{◌≡◌};
 ghost use Rattle.reed_solomon.specs.Correct.{correct_of};
 ghost use Rattle.encoder.specs.Encode.{encode_of};

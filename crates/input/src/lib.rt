@@ -93,3 +93,65 @@ pub fn argument_count(rt: &impl Env) -> usize {
     }
     usize::MAX
 }
+
+#[cfg(test)]
+mod tests {
+    use super::*;
+    use std::test::Fail;
+
+    // Gives two bytes at a time, so many times, and then fails.
+    #[derive(Drop)]
+    struct Failing {
+        pairs: u8,
+    }
+
+    impl Read for Failing {
+        fn read(&mut self, buf: &mut [u8]) -> io::Result<usize> {
+            if self.pairs == 0 || buf.len() < 2 {
+                return Err(io::Error::from_raw_os_error(5));
+            }
+            self.pairs -= 1;
+            buf[0] = 7;
+            buf[1] = 9;
+            Ok(2)
+        }
+    }
+
+    #[test]
+    fn fills_from_a_list(rt: HostRuntime) -> Result<(), Fail> {
+        let mut reader: &[u8] = b"abcde";
+        let mut buffer = [0u8; 3];
+        let first = fill(&mut reader, &mut buffer);
+        assert!(rt; first.failed.is_none());
+        assert_eq!(rt; first.length, 3);
+        assert_eq!(rt; buffer.as_slice(), b"abc".as_slice());
+        let rest = fill(&mut reader, &mut buffer);
+        assert!(rt; rest.failed.is_none());
+        assert_eq!(rt; rest.length, 2);
+        assert_eq!(rt; buffer.as_slice(), b"dec".as_slice());
+        Ok(())
+    }
+
+    #[test]
+    fn tells_the_error_after_what_was_read(rt: HostRuntime) -> Result<(), Fail> {
+        let mut reader = Failing { pairs: 2 };
+        let mut buffer = [0u8; 8];
+        let filled = fill(&mut reader, &mut buffer);
+        assert_eq!(rt; filled.length, 4);
+        assert_eq!(rt; filled.failed.ok_or("no error")?.raw_os_error(), Some(5));
+        assert_eq!(rt; buffer.as_slice(), [7, 9, 7, 9, 0, 0, 0, 0].as_slice());
+        Ok(())
+    }
+
+    #[test]
+    fn says_errors_without_numbers(rt: HostRuntime) -> Result<(), Fail> {
+        let mut text = [0u8; 128];
+        let missing = io::Error::from_raw_os_error(2);
+        assert_eq!(rt; words_of(&missing, &mut text), "No such file or directory");
+        assert_eq!(rt;
+            words_of(&io::Error::other("no number"), &mut text),
+            "no number"
+        );
+        Ok(())
+    }
+}

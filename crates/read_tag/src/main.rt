@@ -1,16 +1,17 @@
 // Reads the Aztec Code tag in a portable bitmap or a text grid on standard input.
-// What goes wrong is said on standard error; the language has no exit status, so a failure shows by an output that is empty or cut short.
+// What goes wrong is said on standard error; the exit status is 0 all the same, so a failure shows by an output that is empty or cut short.
 //
 // Proved: every access lies in its buffer, and read_text's answer and message are those that the definitions give for the bytes in the
-// buffer (specs/Text.antt). Not proved, because no contract can speak of what C reads or writes: that the buffer holds the input's bytes,
-// and what is said.
+// buffer (specs/Text.antt). Not proved, because no contract can speak of what the system reads or writes: that the buffer holds the input's
+// bytes, and what is said.
+#![tactic(auto)]
+
 mod saying;
 mod text;
 mod within;
 
 ghost use Rattle.std.specs.Prelude.{◌≡◌, length};
 
-use libc::{STDERR_FILENO, STDIN_FILENO};
 use text::Reading;
 
 // One byte more than is taken, so that an input that is too long shows.
@@ -23,37 +24,43 @@ const MODULES: usize = 65025;
 const MESSAGE: usize = 8192;
 
 // Says what the bytes hold.
-fn read_bytes(bytes: &[u8], grid: &mut [u8], inner: &mut [u8], message: &mut [u8])
+fn read_bytes(
+    rt: &(impl Print + Eprint),
+    bytes: &[u8],
+    grid: &mut [u8],
+    inner: &mut [u8],
+    message: &mut [u8],
+)
     requires { (length grid.old ≡ 65025) × (length inner.old ≡ 65025) }
 {
     let Reading::Tag(answer) = text::read_text(bytes, grid, inner, message) else {
-        io::write_all(
-            STDERR_FILENO,
-            b"no grid: expected a portable bitmap (P1) or rows of 0, 1, 2 and ?\n",
-        );
+        let _ = eprintln!(rt; "no grid: expected a portable bitmap (P1) or rows of 0, 1, 2 and ?");
         return;
     };
-    saying::say(answer, message);
+    saying::say(rt, answer, message);
 }
 
 // Says what standard input holds. A buffer that is full has lost the rest.
-fn read_input(buffer: &mut [u8], grid: &mut [u8], inner: &mut [u8], message: &mut [u8])
+fn read_input(
+    rt: &(impl Input + Print + Eprint),
+    buffer: &mut [u8],
+    grid: &mut [u8],
+    inner: &mut [u8],
+    message: &mut [u8],
+)
     requires { (length grid.old ≡ 65025) × (length inner.old ≡ 65025) }
 {
-    let filled = input::fill(STDIN_FILENO, buffer);
-    if filled.failed {
-        os::fail(b"standard input");
+    let filled = input::fill(&mut rt.reader(), buffer);
+    if let Some(error) = filled.failed {
+        input::fail(rt, "standard input", &error);
         return;
     }
     let length = filled.length;
     if length == buffer.len() {
-        io::write_all(
-            STDERR_FILENO,
-            b"no grid: the input is longer than 262,144 bytes\n",
-        );
+        let _ = eprintln!(rt; "no grid: the input is longer than 262,144 bytes");
         return;
     }
-    read_bytes(&buffer[..length], grid, inner, message);
+    read_bytes(rt, &buffer[..length], grid, inner, message);
 }
 
 fn empty_input() -> [u8; INPUT]
@@ -75,18 +82,18 @@ fn empty_message() -> [u8; MESSAGE]
 }
 
 // The arrays come first, before any test (docs/DECISIONS.md, "The compiler").
-fn read() {
+fn read(rt: &(impl Input + Print + Eprint)) {
     let mut buffer = empty_input();
     let mut grid = empty_grid();
     let mut inner = empty_grid();
     let mut message = empty_message();
-    read_input(&mut buffer, &mut grid, &mut inner, &mut message);
+    read_input(rt, &mut buffer, &mut grid, &mut inner, &mut message);
 }
 
-fn main() {
-    if 1 < os::arg_count() {
-        io::write_all(STDERR_FILENO, b"usage: read_tag < GRID\n");
+fn main(rt: HostRuntime) {
+    if 1 < input::argument_count(&rt) {
+        let _ = eprintln!(rt; "usage: read_tag < GRID");
         return;
     }
-    read();
+    read(&rt);
 }

@@ -2,96 +2,65 @@
 ghost use Rattle.std.specs.Prelude.{◌≤◌, length};
 
 use decoder::Decoded;
-use libc::{STDERR_FILENO, STDOUT_FILENO};
+use std::io;
 
-// What the decoder's number means. Whether all was written.
-fn print_refusal(number: u32) -> bool {
-    io::write_all(STDERR_FILENO, b"refused ");
-    io::print_decimal(STDERR_FILENO, number as u64);
-    match number {
-        11 => io::write_all(STDERR_FILENO, b": the side is not a shape's\n"),
-        12 => io::write_all(
-            STDERR_FILENO,
-            b": the grid's length is not the side squared\n",
-        ),
-        13 => io::write_all(STDERR_FILENO, b": a module is above 2\n"),
-        14 => io::write_all(STDERR_FILENO, b": no single best position with 9 matches\n"),
-        15 => io::write_all(STDERR_FILENO, b": the mode words are beyond correction\n"),
-        16 => io::write_all(
-            STDERR_FILENO,
-            b": the layers do not give this side, or there are too many data words\n",
-        ),
-        17 => io::write_all(STDERR_FILENO, b": the data block is beyond correction\n"),
-        18 => io::write_all(
-            STDERR_FILENO,
-            b": a corrected data word is all 0s or all 1s\n",
-        ),
-        19 => io::write_all(
-            STDERR_FILENO,
-            b": FLG, or a shift followed by no character or pair\n",
-        ),
-        20 => io::write_all(STDERR_FILENO, b": an item is cut short\n"),
-        _ => io::write_all(STDERR_FILENO, b": the message buffer is too short\n"),
-    }
+// What the decoder's number means.
+fn print_refusal(rt: &impl Eprint, number: u32) -> io::Result<()> {
+    let meaning = match number {
+        11 => "the side is not a shape's",
+        12 => "the grid's length is not the side squared",
+        13 => "a module is above 2",
+        14 => "no single best position with 9 matches",
+        15 => "the mode words are beyond correction",
+        16 => "the layers do not give this side, or there are too many data words",
+        17 => "the data block is beyond correction",
+        18 => "a corrected data word is all 0s or all 1s",
+        19 => "FLG, or a shift followed by no character or pair",
+        20 => "an item is cut short",
+        _ => "the message buffer is too short",
+    };
+    eprintln!(rt; "refused {number}: {meaning}")
 }
 
-fn write_field(before: &[u8], value: u32) -> bool {
-    if !io::write_all(STDOUT_FILENO, before) {
-        return false;
-    }
-    io::print_decimal(STDOUT_FILENO, value as u64)
+fn write_field(rt: &impl Print, before: &str, value: u32) -> io::Result<()> {
+    print!(rt; "{before}{value}")
 }
 
 // C and the number, or F and the number less 4.
-fn write_shape(shape: u32) -> bool {
+fn write_shape(rt: &impl Print, shape: u32) -> io::Result<()> {
     if 4 < shape {
-        return write_field(b"F", shape - 4);
+        return write_field(rt, "F", shape - 4);
     }
-    write_field(b"C", shape)
+    write_field(rt, "C", shape)
 }
 
 // Shape, position, the two counts and the length.
-fn write_answer(answer: Decoded) -> bool {
-    if !write_shape(answer.shape) {
-        return false;
-    }
-    if !write_field(b", position ", answer.position) {
-        return false;
-    }
-    if !write_field(b", unread words ", answer.unread) {
-        return false;
-    }
-    if !write_field(b", wrong words ", answer.wrong) {
-        return false;
-    }
-    if !write_field(b", bytes ", answer.length) {
-        return false;
-    }
-    io::write_all(STDOUT_FILENO, b"\n")
+fn write_answer(rt: &impl Print, answer: Decoded) -> io::Result<()> {
+    write_shape(rt, answer.shape)?;
+    write_field(rt, ", position ", answer.position)?;
+    write_field(rt, ", unread words ", answer.unread)?;
+    write_field(rt, ", wrong words ", answer.wrong)?;
+    write_field(rt, ", bytes ", answer.length)?;
+    println!(rt)
 }
 
-// Whether all was written.
-fn write_tag(answer: Decoded, message: &[u8]) -> bool
+fn write_tag(rt: &impl Print, answer: Decoded, message: &[u8]) -> io::Result<()>
     requires { answer.length ≤ length message.now }
 {
-    if !write_answer(answer) {
-        return false;
-    }
+    write_answer(rt, answer)?;
     let length = answer.length as usize;
-    if !io::write_all(STDOUT_FILENO, &message[..length]) {
-        return false;
-    }
-    io::write_all(STDOUT_FILENO, b"\n")
+    rt.write_all(&message[..length])?;
+    println!(rt)
 }
 
-pub fn say(answer: Decoded, message: &[u8])
+pub fn say(rt: &(impl Print + Eprint), answer: Decoded, message: &[u8])
     requires { answer.length ≤ length message.now }
 {
     if answer.number != 0 {
-        print_refusal(answer.number);
+        let _ = print_refusal(rt, answer.number);
         return;
     }
-    if !write_tag(answer, message) {
-        os::fail(b"standard output");
+    if let Err(error) = write_tag(rt, answer, message) {
+        input::fail(rt, "standard output", &error);
     }
 }

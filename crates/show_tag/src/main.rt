@@ -1,11 +1,14 @@
 // Shows the Aztec Code symbol of a message: drawn in the terminal, for a phone to read off the screen, or as a portable bitmap.
-// Usage and refusals go to standard error; the language has no exit status, so a failure shows by an output that is empty or cut short.
+// Usage and refusals go to standard error; the exit status is 0 all the same, so a failure shows by an output that is empty or cut short.
+#![tactic(auto)]
+
 mod decimal;
 
 ghost use Rattle.std.specs.Prelude.{◌≡◌, ◌*◌, ◌≤◌, length};
 
 use decimal::Decimal;
-use libc::{STDERR_FILENO, STDOUT_FILENO};
+use std::io;
+use std::rt::Env;
 
 // The largest symbol, F32, has 151 × 151 modules.
 const MODULES: usize = 22801;
@@ -34,32 +37,22 @@ fn empty_line() -> [u8; picture::LINE]
     [0; picture::LINE]
 }
 
-fn print_usage() {
-    io::write_all(STDERR_FILENO, b"usage: show_tag [--pbm] MESSAGE PERCENT\n");
+fn print_usage(rt: &impl Eprint) {
+    let _ = eprintln!(rt; "usage: show_tag [--pbm] MESSAGE PERCENT");
 }
 
 // What the encoder's number means.
-fn print_refusal(number: u32) {
-    io::write_all(STDERR_FILENO, b"refused ");
-    io::print_decimal(STDERR_FILENO, number as u64);
-    match number {
-        1 => {
-            io::write_all(STDERR_FILENO, b": the message is empty\n");
-        }
-        2 => {
-            io::write_all(STDERR_FILENO, b": the percentage is outside 5 to 95\n");
-        }
-        3 => {
-            io::write_all(STDERR_FILENO, b": no listed shape fits\n");
-        }
-        _ => {
-            io::write_all(STDERR_FILENO, b": the grid is too short\n");
-        }
-    }
+fn print_refusal(rt: &impl Eprint, number: u32) {
+    let meaning = match number {
+        1 => "the message is empty",
+        2 => "the percentage is outside 5 to 95",
+        3 => "no listed shape fits",
+        _ => "the grid is too short",
+    };
+    let _ = eprintln!(rt; "refused {number}: {meaning}");
 }
 
-// Whether all was written.
-fn write_drawing(grid: &[u8], side: usize, line: &mut [u8]) -> bool
+fn write_drawing(rt: &impl Print, grid: &[u8], side: usize, line: &mut [u8]) -> io::Result<()>
     requires fact_1 { side ≤ 151 }
     requires fact_2 { side * side ≤ length grid.now }
     requires fact_3 { 512 ≤ length line.old }
@@ -67,117 +60,99 @@ fn write_drawing(grid: &[u8], side: usize, line: &mut [u8]) -> bool
     let mut row = 0;
     while row < side + 2 * picture::BORDER {
         let length = picture::terminal_line(grid, side, row, line);
-        if !io::write_all(STDOUT_FILENO, &line[..length]) {
-            return false;
-        }
+        rt.write_all(&line[..length])?;
         row += 2;
     }
-    true
+    Ok(())
 }
 
-fn write_header(width: usize) -> bool {
-    if !io::write_all(STDOUT_FILENO, b"P1\n") {
-        return false;
-    }
-    if !io::print_decimal(STDOUT_FILENO, width as u64) {
-        return false;
-    }
-    if !io::write_all(STDOUT_FILENO, b" ") {
-        return false;
-    }
-    if !io::print_decimal(STDOUT_FILENO, width as u64) {
-        return false;
-    }
-    io::write_all(STDOUT_FILENO, b"\n")
+fn write_header(rt: &impl Print, width: usize) -> io::Result<()> {
+    println!(rt; "P1\n{width} {width}")
 }
 
-// Whether all was written.
-fn write_bitmap(grid: &[u8], side: usize, line: &mut [u8]) -> bool
+fn write_bitmap(rt: &impl Print, grid: &[u8], side: usize, line: &mut [u8]) -> io::Result<()>
     requires fact_1 { side ≤ 151 }
     requires fact_2 { side * side ≤ length grid.now }
     requires fact_3 { 512 ≤ length line.old }
 {
     let width = side + 2 * picture::BORDER;
-    if !write_header(width) {
-        return false;
-    }
+    write_header(rt, width)?;
     let mut row = 0;
     while row < width {
         let length = picture::pbm_row(grid, side, row, line);
-        if !io::write_all(STDOUT_FILENO, &line[..length]) {
-            return false;
-        }
+        rt.write_all(&line[..length])?;
         row += 1;
     }
-    true
+    Ok(())
 }
 
-fn write_picture(grid: &[u8], side: usize, bitmap: bool) -> bool
+fn write_picture(rt: &impl Print, grid: &[u8], side: usize, bitmap: bool) -> io::Result<()>
     requires { (side ≤ 151) × (side * side ≤ length grid.now) }
 {
     let mut line = empty_line();
     if bitmap {
-        return write_bitmap(grid, side, &mut line);
+        return write_bitmap(rt, grid, side, &mut line);
     }
-    write_drawing(grid, side, &mut line)
+    write_drawing(rt, grid, side, &mut line)
 }
 
-fn show(message: &[u8], percent: u32, bitmap: bool) {
+fn show(rt: &(impl Print + Eprint), message: &[u8], percent: u32, bitmap: bool) {
     let mut modules = empty_grid();
     let grid: &mut [u8] = &mut modules;
     let answer = encoder::encode(message, percent, grid);
     if answer.number != 0 {
-        print_refusal(answer.number);
+        print_refusal(rt, answer.number);
         return;
     }
-    if !write_picture(grid, answer.side as usize, bitmap) {
-        os::fail(b"standard output");
+    // Only a symbol that was made is shown.
+    prove!(answer.number == 0);
+    if let Err(error) = write_picture(rt, grid, answer.side as usize, bitmap) {
+        input::fail(rt, "standard output", &error);
     }
 }
 
 // The percentage that an argument says.
-fn percent_at(i: usize) -> Decimal {
+fn percent_at(rt: &impl Env, i: usize) -> Decimal {
     let mut digits = [0u8; DIGITS];
-    let length = os::arg(i, &mut digits);
-    if os::errno() != 0 {
-        return Decimal::Nothing;
+    match rt.arg(i, &mut digits) {
+        Ok(length) => decimal::read(&digits[..length]),
+        Err(_) => Decimal::Nothing,
     }
-    decimal::read(&digits[..length])
 }
 
 // Shows the message that stands at argument i, before its percentage.
-fn show_argument(i: usize, bitmap: bool)
+fn show_argument(rt: &(impl Env + Print + Eprint), i: usize, bitmap: bool)
     requires { i ≤ 2 }
 {
     let mut message = empty_message();
-    let length = os::arg(i, &mut message);
-    let cut = os::errno() != 0;
-    let Decimal::Number(percent) = percent_at(i + 1) else {
-        print_usage();
+    let told = rt.arg(i, &mut message);
+    let Decimal::Number(percent) = percent_at(rt, i + 1) else {
+        print_usage(rt);
         return;
     };
-    if cut {
-        show(&message, percent, bitmap);
-        return;
+    match told {
+        Ok(length) => show(rt, &message[..length], percent, bitmap),
+        Err(_) => show(rt, &message, percent, bitmap),
     }
-    show(&message[..length], percent, bitmap);
 }
 
-fn asks_for_bitmap() -> bool {
+fn asks_for_bitmap(rt: &impl Env) -> bool {
     let mut word = [0u8; 8];
-    let length = os::arg(1, &mut word);
-    check::same(&word[..length], b"--pbm")
+    match rt.arg(1, &mut word) {
+        Ok(length) => &word[..length] == b"--pbm".as_slice(),
+        Err(_) => false,
+    }
 }
 
-fn main() {
-    let count = os::arg_count();
+fn main(rt: HostRuntime) {
+    let count = input::argument_count(&rt);
     if count == 3 {
-        show_argument(1, false);
+        show_argument(&rt, 1, false);
         return;
     }
-    if count == 4 && asks_for_bitmap() {
-        show_argument(2, true);
+    if count == 4 && asks_for_bitmap(&rt) {
+        show_argument(&rt, 2, true);
         return;
     }
-    print_usage();
+    print_usage(&rt);
 }
