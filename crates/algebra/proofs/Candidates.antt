@@ -20,6 +20,12 @@ module _ (F : Field) where
 
   infixl 65 ◌⊕◌
   infixl 70 ◌⊗◌
+  abbrev taken : ℕ → (ℕ → C) → (ℕ → C) → (ℕ → Bool) → ℕ → Bool
+  taken = exactness.taken F
+
+  abbrev candidate : (ℕ → Bool) → ℕ → (ℕ → C) → (ℕ → C) → (ℕ → C) → (ℕ → C) → ℕ → C
+  candidate = exactness.candidate F
+
   -- the word b from the error's value d, as `value` gives it
   solved : (y b x q d : C) → x ⊗ q ≢ 𝟘 → d ≡ ((b ⊕ y) ⊗ x) ⊗ q → y ⊕ d ⊗ inv (x ⊗ q) ≡ b
   solved y b x q d ne e =
@@ -35,15 +41,15 @@ module _ (F : Field) where
         (S : ℕ → C) (S-is : (j : ℕ) → j < K → S j ≡ power_sum F n X y (suc j))
         (P : ℕ → C) (p : ℕ) (p-le : p ≤ t) (P-ne : P p ≢ 𝟘)
         (P-annihilates : (i : ℕ) → i < t → dot F (suc t) P (erase F n marked X S) i ≡ 𝟘) where
-      module _ (M : ℕ) (G : ℕ → C) (M-is : M ≡ count n (exactness.taken F t P X marked)) (G-lead : G M ≢ 𝟘)
-          (G-root : (i : ℕ) → i < n → T (exactness.taken F t P X marked i) → eval F (suc M) G (X i) ≡ 𝟘) where
+      module _ (M : ℕ) (G : ℕ → C) (M-is : M ≡ count n (taken t P X marked)) (G-lead : G M ≢ 𝟘)
+          (G-root : (i : ℕ) → i < n → T (taken t P X marked i) → eval F (suc M) G (X i) ≡ 𝟘) where
         G-roots : M ≤ roots F n X (suc M) G
         G-roots =
             le_trans (le_of_eq M-is)
-            (count-le n (exactness.taken F t P X marked) (λ i. is_zero F (eval F (suc M) G (X i))) (λ i l s. zero→is_zero F _ (G-root i l s)))
+            (count-le n (taken t P X marked) (λ i. is_zero F (eval F (suc M) G (X i))) (λ i l s. zero→is_zero F _ (G-root i l s)))
 
         module _ (b : ℕ → C) (near : Near F n K limit X marked y b) where
-          read-right : (i : ℕ) → i < n → T (not (exactness.taken F t P X marked i)) → b i ≡ y i
+          read-right : (i : ℕ) → i < n → T (not (taken t P X marked i)) → b i ≡ y i
           read-right = exactness.untaken F n K limit X marked y dis ne limit-le t t-fits t-most S S-is P p p-le P-ne P-annihilates b near
 
           pub error : ℕ → C
@@ -51,16 +57,16 @@ module _ (F : Field) where
 
           pub within : (i : ℕ) → i < n → error i ≢ 𝟘 → eval F (suc M) G (X i) ≡ 𝟘
           unfolding error
-          within i l h = by (decided (exactness.taken F t P X marked i))
+          within i l h = by (decided (taken t P X marked i))
             where
-              by : T (exactness.taken F t P X marked i) ⊎ T (not (exactness.taken F t P X marked i)) → eval F (suc M) G (X i) ≡ 𝟘
+              by : T (taken t P X marked i) ⊎ T (not (taken t P X marked i)) → eval F (suc M) G (X i) ≡ 𝟘
               by (inl s) = G-root i l s
               by (inr s) = absurd (h (⊗-left-zero F _ (zero-of-equal F (read-right i l s))))
 
-          pub candidate-is : (i : ℕ) → i < n → exactness.candidate F (exactness.taken F t P X marked) M G S X y i ≡ b i
+          pub candidate-is : (i : ℕ) → i < n → candidate (taken t P X marked) M G S X y i ≡ b i
           unfolding error
           candidate-is i l =
-              cond-is (exactness.taken F t P X marked i)
+              cond-is (taken t P X marked i)
               (λ s.
               solved (y i) (b i) (X i) _ _ (⊗-ne F _ _ (ne i l) (simple-root F n X dis M G G-lead G-roots i l (G-root i l s)))
               (value F n X dis M G i l (G-root i l s) error S within
@@ -70,7 +76,7 @@ module _ (F : Field) where
               (λ s. sym (read-right i l s))
 
         -- the last check decides: if it fails, no block is near
-        pub none-near : ¬ Near F n K limit X marked y (exactness.candidate F (exactness.taken F t P X marked) M G S X y)
+        pub none-near : ¬ Near F n K limit X marked y (candidate (taken t P X marked) M G S X y)
             → (b : ℕ → C) → ¬ Near F n K limit X marked y b
         none-near h b near = h (exactness.near-cong F (λ i l m. refl) (λ i l. sym (candidate-is b near i l)) near)
 
@@ -88,11 +94,11 @@ module _ (F : Field) where
         P : (P : ℕ → C) × Located F t (erase F n marked X S) P
         P = locator-exists F t (erase F n marked X S)
 
-        G : (M : ℕ) × (G : ℕ → C) × Vanishing F X (exactness.taken F t P.0 X marked) n M G
-        G = vanishing-exists F X (exactness.taken F t P.0 X marked) n
+        G : (M : ℕ) × (G : ℕ → C) × Vanishing F X (taken t P.0 X marked) n M G
+        G = vanishing-exists F X (taken t P.0 X marked) n
 
         c : ℕ → C
-        c = exactness.candidate F (exactness.taken F t P.0 X marked) G.0 G.1 S X y
+        c = candidate (taken t P.0 X marked) G.0 G.1 S X y
 
         by : Dec (Near F n K limit X marked y c)
             → ((c : ℕ → C) × Near F n K limit X marked y c) ⊎ ((b : ℕ → C) → ¬ Near F n K limit X marked y b)
