@@ -57,7 +57,7 @@ computed =
       answer-is = λ buffer. refl;
     }
 
-side-is : n message 23 ≡ 15
+pub side-is : n message 23 ≡ 15
 side-is = ap (λ (e : Encoded). e.side) computed.plan-is
 
 -- THE WITNESS

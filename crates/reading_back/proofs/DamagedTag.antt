@@ -49,7 +49,7 @@ use Rattle.decoder.specs.DecodeLaws.{message-read}
 use Rattle.reading_back.specs.Within.{Within}
 
 -- words and marks of one table, the words below 2^B: a valid block within the limit is found
-found : (s : field.WordSize) (K n : ℕ) (word mark : ℕ → ℕ) (made : List ℕ) → ((w : ℕ) → word w < 2 ^ field.bits s) → n < 2 ^ field.bits s
+pub found : (s : field.WordSize) (K n : ℕ) (word mark : ℕ → ℕ) (made : List ℕ) → ((w : ℕ) → word w < 2 ^ field.bits s) → n < 2 ^ field.bits s
     → length made ≡ n → Valid s K made → Within K (tabulate word n) (tabulate mark n) made
     → nearest.nearest s K K (tabulate word n) (tabulate mark n) ≡ some made
 found s K n word mark made below fits e valid within =
@@ -156,7 +156,7 @@ module _ (message : List ℕ) (x : Bytes message) (f : Bool) (L D : ℕ) (fit : 
     position-found : position f n g ≡ some p
     position-found = position-is f n (sided f L fit.shaped) g p turned eleven
 
-    mode-found : Within (mode_checks f) (mode_words_in f n p g) (mode_marks_in f n p g) (mode_codewords f L D) → mode_in f n p g ≡ some (mode_codewords f L D)
+    pub mode-found : Within (mode_checks f) (mode_words_in f n p g) (mode_marks_in f n p g) (mode_codewords f L D) → mode_in f n p g ≡ some (mode_codewords f L D)
     unfolding mode_in mode_words_in mode_marks_in mode_word
     mode-found w =
         found (field.size_of 4) (mode_checks f) (mode_run f) _ _ (mode_codewords f L D) (λ k. value-lt 4 _) (run_fits f) (length-mode-words f L D)
@@ -166,7 +166,7 @@ module _ (message : List ℕ) (x : Bytes message) (f : Bool) (L D : ℕ) (fit : 
         run_fits false = unfold mode_run in omega arith
         run_fits true = unfold mode_run in omega arith
 
-    block-found : Within (words f L - D) (block_words_in f L p g) (block_marks_in f L D p g) (block message f L)
+    pub block-found : Within (words f L - D) (block_words_in f L p g) (block_marks_in f L D p g) (block message f L)
         → block_in f L D p g ≡ some (block message f L)
     unfolding block_in block_words_in block_marks_in block_word
     block-found w =
@@ -203,7 +203,7 @@ module _ (message : List ℕ) (x : Bytes message) (f : Bool) (L D : ℕ) (fit : 
       lawful = rw (eq-eqb (side f L) n refl, le-leb (D + 3) (words f L) fit.checks) refl
 
       -- every stage finds what was made
-      walked : Message g n (layout_of f L p D) (length message) (block_words_in f L p g) (unread_in f L p g) (block message f L) message
+      pub walked : Message g n (layout_of f L p D) (length message) (block_words_in f L p g) (unread_in f L p g) (block message f L) message
       walked =
           record {
             sampled =

@@ -180,7 +180,7 @@ module _ (message : List ℕ) (percent : ℕ) (x : Bytes message) (made : (plan_
   unfolding made_tag
   tag_is = ap₂ (λ m u. placed m p u) answer.side-is (made-symbol message percent x made)
 
-  mode-exact : Within (mode_checks f) (mode_words_in f (side f ls) p shown) (mode_marks_in f (side f ls) p shown) ms
+  pub mode-exact : Within (mode_checks f) (mode_words_in f (side f ls) p shown) (mode_marks_in f (side f ls) p shown) ms
   unfolding mode_words_in mode_marks_in
   mode-exact =
       exact (mode_checks f) (mode_run f) (mode_word f (side f ls) p shown) (λ w. unread 4 (mode_module f (side f ls) p shown w)) ms
@@ -228,7 +228,7 @@ module _ (message : List ℕ) (percent : ℕ) (x : Bytes message) (made : (plan_
           ap (λ c. cond c 1 (unread (word_size ls) (block_module f ls p shown w))) (uneven (ltb-true w ds e)) ∙ clear
       go false e = clear
 
-  block-exact : Within (words f ls - ds) (block_words_in f ls p shown) (block_marks_in f ls ds p shown) ws
+  pub block-exact : Within (words f ls - ds) (block_words_in f ls p shown) (block_marks_in f ls ds p shown) ws
   unfolding block_words_in block_marks_in
   block-exact = exact (words f ls - ds) (words f ls) (block_word f ls p shown) (block_mark f ls ds p shown) ws word-is unmarked
 
