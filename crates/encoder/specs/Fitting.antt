@@ -18,7 +18,7 @@ use Rattle.stream.specs.Below.{Bytes}
 use Rattle.stream.specs.Stream.{bits_of}
 use Rattle.stream.specs.Stuffing.{stuff}
 use Rattle.stream.specs.StuffingLaws.{stuffed-codewords, codeword-at}
-use Rattle.stream.specs.StreamLength.{words-of-message, message-bits}
+use Rattle.stream.proofs.PartLaws.{words-of-message, message-bits}
 use Rattle.symbol.specs.Shapes.{bits, word_size, words, most_words, most_layers, is_full, layers, Shaped, bits_most, word-size-range}
 use Rattle.encoder.specs.declared.Encoded.{Encoded}
 use Rattle.encoder.specs.Plan.{data_words_of, least_check, fits, listed, fits_listed, planned, planned_for, refused, plan_of}

@@ -9,7 +9,7 @@ use Rattle.list_laws.specs.Tests.{both-parts, holds}
 use Rattle.stream.specs.Below.{Bytes}
 use Rattle.stream.specs.Stream.{bits_of}
 use Rattle.stream.specs.Stuffing.{stuff}
-use Rattle.stream.specs.StreamLength.{words-of-message}
+use Rattle.stream.proofs.PartLaws.{words-of-message}
 use Rattle.stream_writer.specs.Encoding.{words_needed}
 use Rattle.symbol.specs.Shapes.{side, bits, word_size, words, most_words, is_full, layers, bits_most, word-size-range}
 use Rattle.encoder.specs.declared.Encoded.{Encoded}

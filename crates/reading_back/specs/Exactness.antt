@@ -3,17 +3,13 @@
 -- 2r + e is at most K, with e words marked unread and K check words. That block is the answer. Every other block with correct check
 -- words is then beyond that limit."
 -- Assumes nothing.
-use Rattle.std.specs.Prelude.{◌≡◌, refl, ◌≢◌, ◌↔◌, ◌⊎◌, Bool, true, false, not, cond, ◌&&◌, ◌||◌, List, [], ◌∷◌, ℕ, ◌+◌, ◌*◌, ◌^◌, ◌≤◌, ◌<◌, T, eqb, ltb, leb, length, get_or}
-use Rattle.std.proofs.Common.{sym, ap, ◌∙◌, subst, inl, inr, le_refl, arith, eqb→eq, ltb→lt, pow_pos}
+use Rattle.std.specs.Prelude.{◌≡◌, refl, ◌≢◌, ◌↔◌, ◌⊎◌, Bool, true, false, not, cond, List, [], ◌∷◌, ℕ, ◌+◌, ◌*◌, ◌≤◌, ◌<◌, length}
+use Rattle.std.proofs.Common.{sym, subst, inl, inr, arith}
 use Rattle.std.proofs.Math.Option.{Option, none, some}
-use Rattle.std.proofs.Math.Decide.{dec_lt}
-use Rattle.std.proofs.Math.ListN.{get_or-eq_default}
-use Rattle.list_laws.specs.Range.{all, all-at}
-use Rattle.list_laws.specs.Tests.{both-parts, holds}
-use Rattle.finite_field.specs.Field.{bits, size_of}
+use Rattle.list_laws.specs.Range.{all}
+use Rattle.finite_field.specs.Field.{size_of}
 use Rattle.block_code.specs.Block.{Valid}
-use Rattle.block_code.specs.Nearest.{marked, unread, differ, Near, nearest}
-use Rattle.block_code.specs.NearestLaws.{nearest-some, some_near, none-near, nearest-none, near-unique}
+use Rattle.block_code.specs.Nearest.{unread, differ, nearest}
 use Rattle.reed_solomon.specs.Correct.{Answer, refused, answer, same_lengths, lawful_size, lawful_counts, lawful_words, correct_of}
 
 -- four tests in a row, with the number of each
@@ -68,11 +64,11 @@ module _ (B K : ℕ) (received marks before : List ℕ) where
     -- and there is no other answer
     pub answers-or-refuses : (corrected.number ≡ 0) ⊎ (corrected.number ≡ 34)
 
-  abbrev found : Option (List ℕ)
+  abbrev pub found : Option (List ℕ)
   found = nearest (size_of B) K K received marks
 
   -- past the four tests, the answer is the nearest block
-  judged : LawfulTests → corrected ≡ answer found before
+  pub judged : LawfulTests → corrected ≡ answer found before
   judged t = go t.lengths t.size t.counts t.words
     where
       go : {a b c d : Bool} {rest : Answer} → a ≡ true → b ≡ true → c ≡ true → d ≡ true → tested a b c d before rest ≡ rest
@@ -92,7 +88,7 @@ module _ (B K : ℕ) (received marks before : List ℕ) where
   answer-number (some block) = inl refl
   answer-number none = inr refl
 
-  number_is : LawfulTests → (corrected.number ≡ 0) ⊎ (corrected.number ≡ 34)
+  pub number_is : LawfulTests → (corrected.number ≡ 0) ⊎ (corrected.number ≡ 34)
   number_is t = subst (λ (a : Answer). (a.number ≡ 0) ⊎ (a.number ≡ 34)) (sym (judged t)) (answer-number found)
 
   -- the numbers say no more and no less than the tests
@@ -110,94 +106,6 @@ module _ (B K : ℕ) (received marks before : List ℕ) where
       between : (m k : ℕ) → 0 < k → k < 34 → (m ≡ 0) ⊎ (m ≡ 34) → m ≢ k
       between m k h l (inl p) e = omega arith
       between m k h l (inr p) e = omega arith
-
-  to-near : {block : List ℕ} → WithinLimit block → Near (size_of B) K K received marks block
-  to-near w = record { size = w.0.size; valid = w.0.valid; within = omega (arith, w.1) }
-
-  of-near : {block : List ℕ} → Near (size_of B) K K received marks block → WithinLimit block
-  of-near near = (record { size = near.size; valid = near.valid }, omega (arith, near.within))
-
-  module _ (t : LawfulTests) where
-    marks-length : length marks ≡ length received
-    marks-length =
-        eqb→eq _ _ (both-parts (eqb (length marks) (length received)) (eqb (length before) (length received)) (holds t.lengths)).0
-
-    fits : length received < 2 ^ bits (size_of B)
-    fits = ltb→lt _ _ (both-parts (ltb (length received) (2 ^ bits (size_of B))) (ltb 0 K && ltb K (length received)) (holds t.counts)).0
-
-    -- a word that isn't marked is below 2^B
-    readable : (i : ℕ) → T (not (marked marks i)) → get_or received i 0 < 2 ^ bits (size_of B)
-    readable i clear = go (dec_lt i (length received))
-      where
-        small : ℕ → Bool
-        small i = ltb (get_or received i 0) (2 ^ bits (size_of B))
-
-        unmarked : (b c : Bool) → T (not b) → T (b || c) → T c
-        unmarked true c n t = absurd n
-        unmarked false c n t = t
-
-        go : Dec (i < length received) → get_or received i 0 < 2 ^ bits (size_of B)
-        go (yes h) =
-            let test = all-at (length received) (λ i. leb (get_or marks i 0) 1 && (marked marks i || small i)) (holds t.words) i h in
-            ltb→lt _ _ (unmarked (marked marks i) (small i) clear (both-parts (leb (get_or marks i 0) 1) (marked marks i || small i) test).1)
-        go (no h) = rw (get_or-eq_default received 0 {n = i} (omega arith)) (pow_pos (bits (size_of B)))
-
-    within-is : (block : List ℕ) → WithinLimit block → corrected ≡ record { number = 0; words = block }
-    within-is block w =
-        judged t
-        ∙ ap (λ o. answer o before) (nearest-some (size_of B) K K received marks marks-length readable (le_refl K) fits (to-near w))
-
-    one : (a b : List ℕ) → WithinLimit a → WithinLimit b → a ≡ b
-    one a b x y = near-unique (size_of B) K K received marks marks-length readable (le_refl K) fits a b (to-near x) (to-near y)
-
-    -- the number says whether a block was found
-    of_zero : corrected.number ≡ 0 → WithinLimit corrected.words
-    of_zero e = go found refl (sym (ap (λ a. a.number) (judged t)) ∙ e)
-      where
-        go : (o : Option (List ℕ)) → found ≡ o → (answer o before).number ≡ 0 → WithinLimit corrected.words
-        go (some block) f z =
-            subst (λ (a : Answer). WithinLimit a.words) (sym (judged t ∙ ap (λ o. answer o before) f))
-            (of-near (some_near (size_of B) K K received marks f))
-        go none f z = absurd (omega arith)
-
-    of-34 : corrected.number ≡ 34 → ((block : List ℕ) → ¬ WithinLimit block) × (corrected.words ≡ before)
-    of-34 e = go found refl (sym (ap (λ a. a.number) (judged t)) ∙ e)
-      where
-        go : (o : Option (List ℕ)) → found ≡ o → (answer o before).number ≡ 34
-            → ((block : List ℕ) → ¬ WithinLimit block) × (corrected.words ≡ before)
-        go (some block) f z = absurd (omega arith)
-        go none f z = (
-          λ block w. none-near (size_of B) K K received marks f block (to-near w),
-          ap (λ a. a.words) (judged t ∙ ap (λ o. answer o before) f),
-        )
-
-    tests-exact : Exact
-    tests-exact =
-        record {
-          answers-exactly = (λ e. (corrected.words, of_zero e), λ w. ap (λ a. a.number) (within-is w.0 w.1));
-          answer-within = of_zero;
-          within-answered = within-is;
-          others-beyond = λ e block c other. beyond e block c other (dec_lt K (distance block));
-          one-within = one;
-          refuses-exactly = (
-            λ e. (of-34 e).0,
-            λ none_within.
-                ap (λ a. a.number)
-                (judged t ∙ ap (λ o. answer o before)
-                (nearest-none (size_of B) K K received marks (λ block near. none_within block (of-near near)))),
-          );
-          refused-untouched = λ e. (of-34 e).1;
-          answers-or-refuses = number_is t;
-        }
-      where
-        beyond : corrected.number ≡ 0 → (block : List ℕ) → CorrectChecks block → block ≢ corrected.words → Dec (K < distance block)
-            → K < distance block
-        beyond e block c other (yes h) = h
-        beyond e block c other (no h) = absurd (other (one block corrected.words (c, omega arith) (of_zero e)))
-
-  -- THE THEOREM
-  pub corrects-exactly : LawfulArguments → Exact
-  corrects-exactly l = tests-exact (lawful-tests.0 l)
 
 -- a marked word's value is ignored: marked, 65,535 is lawful among words of 4 bits
 pub lawful-met : LawfulArguments 4 5 (0 ∷ 0 ∷ 5 ∷ 0 ∷ 65535 ∷ 3 ∷ 0 ∷ []) (1 ∷ 0 ∷ 0 ∷ 0 ∷ 1 ∷ 1 ∷ 0 ∷ []) (9 ∷ 9 ∷ 9 ∷ 9 ∷ 9 ∷ 9 ∷ 9 ∷ [])

@@ -1,6 +1,4 @@
 pub mod AtTheLimit
-pub mod DamagedTag
 pub mod Exactness
 pub mod ReadsBack
-pub mod Undamaged
 pub mod Within

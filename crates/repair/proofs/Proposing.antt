@@ -16,6 +16,7 @@ use Rattle.algebra.specs.Field.{is_zero}
 use Rattle.algebra.specs.KeyEquation.{eval-short, dot}
 use Rattle.algebra.specs.Erasures as erasures
 use Rattle.algebra.specs.Exactness as exactness
+use Rattle.algebra.proofs.Candidates as candidates
 use Rattle.list_laws.specs.Range.{one, count_same}
 use Rattle.list_laws.specs.Filled.{filled, get_or-filled, get_or-unfilled}
 use Rattle.finite_field.specs.Field.{WordSize, bits}
@@ -84,7 +85,7 @@ module _ (s : WordSize) (check limit t : ℕ) (marks syndromes : List ℕ)
       ∙ ap (λ c. cond c (exactness.correction (word_field s) m (entry s g) (entry s syndromes) (place s (length marks) i)) (word_field s).zer)
       (noted-test (taken_at s degree p marks i) (gathered.noted i l) ∙ taken_is i))
       ∙ sym (exactness.candidate-corrects (word_field s) (taken_at s t p marks) m (entry s g) (entry s syndromes) (place s (length marks)) y i)
-      ∙ exactness.candidate-is (word_field s) (length marks) check limit (place s (length marks)) (marked marks) y
+      ∙ candidates.candidate-is (word_field s) (length marks) check limit (place s (length marks)) (marked marks) y
       (places-distinct s (length marks) length-lt)
       (λ k _. places-nonzero s (length marks) k)
       limit-le t t-fits t-most (entry s syndromes) is

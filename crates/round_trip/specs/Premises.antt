@@ -14,7 +14,7 @@ use Rattle.encoder.specs.Encode.{block}
 use Rattle.recovery.specs.Stages.{mode_words_in, mode_marks_in, block_words_in, block_marks_in}
 use Rattle.reading_back.specs.Within.{Within}
 use Rattle.reading_back.specs.ReadsBack.{full, L, n, D, K, made_tag, spoilt, Shows}
-use Rattle.reading_back.specs.Undamaged.{undamaged}
+use Rattle.reading_back.proofs.Undamaged.{undamaged}
 use Rattle.round_trip.specs.Changes.{changed_to, damaged}
 use Rattle.round_trip.specs.RoundTrip.{shown}
 

@@ -10,7 +10,8 @@ use Rattle.encoder.specs.Plan.{plan_of}
 use Rattle.encoder.specs.Encode.{encode_of}
 use Rattle.decoder.specs.declared.Decoded.{Decoded}
 use Rattle.decoder.specs.Decode.{Result, refused, decode_of}
-use Rattle.reading_back.specs.ReadsBack.{made_tag, Shows, read_back, reads-back}
+use Rattle.reading_back.specs.ReadsBack.{made_tag, Shows, read_back}
+use Rattle.reading_back.proofs.ReadsBack.{reads-back}
 use Rattle.round_trip.specs.Changes.{damaged}
 use Rattle.round_trip.specs.MadeTag.{made-front}
 

@@ -9,7 +9,7 @@ use Rattle.stream.specs.Below.{Bytes}
 use Rattle.encoder.specs.Plan.{plan_of}
 use Rattle.decoder.specs.declared.Decoded.{Decoded}
 use Rattle.reading_back.specs.ReadsBack.{made_tag, Shows, read_back}
-use Rattle.reading_back.specs.Undamaged.{undamaged, none-unread, none-wrong}
+use Rattle.reading_back.proofs.Undamaged.{undamaged, none-unread, none-wrong}
 use Rattle.round_trip.specs.Changes.{damaged-none}
 use Rattle.round_trip.specs.RoundTrip.{shown, round_trip_in, trip-reads-back}
 

@@ -1,1 +1,3 @@
 pub mod CodeTables
+pub mod PartLaws
+pub mod Trips

@@ -16,13 +16,13 @@ use Rattle.stream.specs.Below.{Bytes, below-take, below-drop}
 use Rattle.stream.specs.Bits.{bits, value, length-bits, value-of-bits}
 use Rattle.stream.specs.Codes.{entry, width, code_of}
 use Rattle.stream.specs.Latches.{path, latch_code, path_bits, latch_bits}
-use Rattle.stream.specs.Stream.{target, char_bits, run_set, count_bits, bytes_bits, binary_bits, part_bits, stream_from, next_part, bits_of}
+use Rattle.stream.specs.Stream.{target, char_bits, run_set, count_bits, bytes_bits, binary_bits, part_bits, stream_from}
 use Rattle.stream.specs.Stuffing.{flat, stuff, unstuff}
 use Rattle.stream.specs.Items.{message, field, bytes_at, count_at, item_by, item_at, bytes_of, read_from, read_items, judge, refused}
 use Rattle.stream.specs.PutLaws.{Codewords}
 use Rattle.stream.specs.StuffingLaws.{codeword-at, unstuff-stuff, stuffed-codewords}
 use Rattle.stream.specs.CodeLaws.{Leads, char-facts, run-facts, width-bounds}
-use Rattle.stream.specs.StreamLaws.{Lawful, next-part-lawful, stream-char, stream-part, by-turns}
+use Rattle.stream.specs.StreamLaws.{Lawful, stream-char, stream-part, by-turns}
 use Rattle.stream.specs.StreamLength.{length-bytes, length-binary, stream_bits}
 use Rattle.stream.specs.ItemLaws.{item_by_lem, short-by, long-by, bytes-by}
 use Rattle.stream.specs.ReadingLaws.{Live, live-long, live-append, live-code, Reads, reads-item, reads-ones}
@@ -184,10 +184,6 @@ round-trip-by cut lawful text x B low high =
     ap (read_from B 0 0 0) r.2
     ∙ reads-stream B some high cut lawful (replicate r.0 1) (λ s. reads-ones B some high r.0 s r.1) 0 text (omega arith) x 0
 
-pub round_trip : (text : List ℕ) → Bytes text → (B : ℕ) → 2 ≤ B → B ≤ 12 → read_items B (unstuff B (stuff B (bits_of text))) ≡ message text
-unfolding bits_of
-round_trip = round-trip-by next_part next-part-lawful
-
 -- number 18 cannot arise
 pub judge-codewords : (B : ℕ) (words : List ℕ) → Codewords B words → judge B words ≡ read_items B (unstuff B words)
 unfolding judge
@@ -202,8 +198,3 @@ judge-by cut lawful text x B low high =
     let stream = stream_from cut 0 0 text in
     judge-codewords B (stuff B stream) (stuffed-codewords B low stream (stream_bits cut lawful 0 text))
     ∙ round-trip-by cut lawful text x B low high
-
--- the words of a message are judged to be the message
-pub judge-message : (text : List ℕ) → Bytes text → (B : ℕ) → 2 ≤ B → B ≤ 12 → judge B (stuff B (bits_of text)) ≡ message text
-unfolding bits_of
-judge-message = judge-by next_part next-part-lawful

@@ -8,15 +8,11 @@ use mathlib.Core.List.{List, [], ◌∷◌, ◌++◌}
 use Prim.Native.Nat.{ℕ, zero, suc, ◌+◌, ◌-◌, ◌≤◌, ◌<◌}
 use Rattle.std.proofs.Math.Seq.{drop-nil}
 use Rattle.stream.specs.Codes.{coded}
-use Rattle.stream.specs.Stream.{target, char_bits, run_length, run_set, part_bits, stream_from, next_part}
+use Rattle.stream.specs.Stream.{target, char_bits, run_length, run_set, part_bits, stream_from}
 
 -- a part has at least one byte and no more than B/S can count or the run has
 abbrev pub Lawful : (ℕ → ℕ) → Type 0
 Lawful cut = (n : ℕ) → 1 ≤ n → (1 ≤ cut n) × (cut n ≤ n) × (cut n ≤ 2078)
-
-pub next-part-lawful : Lawful next_part
-unfolding next_part
-next-part-lawful n h = omega arith
 
 pub run-most : (m : List ℕ) → run_length m ≤ length m
 unfolding run_length

@@ -11,11 +11,9 @@ use Rattle.stream.specs.Below.{Bits, Bytes, below-append, below-drop}
 use Rattle.stream.specs.Bits.{bits, value, bits-are-bits, length-bits, bits_of_value}
 use Rattle.stream.specs.Codes.{width, code_of}
 use Rattle.stream.specs.Latches.{path, latch_code, path_bits, latch_bits}
-use Rattle.stream.specs.Stream.{target, char_bits, run_set, count_bits, bytes_bits, binary_bits, part_bits, stream_from, next_part, bits_of}
-use Rattle.stream.specs.Stuffing.{stuff}
-use Rattle.stream.specs.StuffingLaws.{words-length}
+use Rattle.stream.specs.Stream.{target, char_bits, run_set, count_bits, bytes_bits, binary_bits, part_bits, stream_from}
 use Rattle.stream.specs.CodeLaws.{char-facts, run-facts, width-bounds}
-use Rattle.stream.specs.StreamLaws.{Lawful, next-part-lawful, stream-char, stream-part, by-turns}
+use Rattle.stream.specs.StreamLaws.{Lawful, stream-char, stream-part, by-turns}
 
 path-bits : (s : ℕ) (ts : List ℕ) → Bits (path_bits s ts)
 unfolding path_bits
@@ -124,18 +122,3 @@ module _ (cut : ℕ → ℕ) (lawful : Lawful cut) where
         ap length (stream-part cut s b m n e f h) ∙ length-append (part_bits s l) (stream_from cut 0 t (drop n (b ∷ m))),
         length-append (latch_bits s t) (binary_bits l),
       ))
-
--- every byte of a message takes at least 4 stream bits, and at most 23
-pub bits-length : (message : List ℕ) → Bytes message
-    → (4 * length message ≤ length (bits_of message)) × (length (bits_of message) ≤ 23 * length message)
-unfolding bits_of
-bits-length message x = stream-length next_part next-part-lawful 0 message (omega arith) x
-
-pub message-bits : (message : List ℕ) → Bits (bits_of message)
-unfolding bits_of
-message-bits message = stream_bits next_part next-part-lawful 0 message
-
--- so many words hold a message: at most 4,992 bytes fit 19,968 bits
-pub words-of-message : (B : ℕ) → 2 ≤ B → (message : List ℕ) → Bytes message
-    → (4 * length message ≤ length (stuff B (bits_of message)) * B) × (length (stuff B (bits_of message)) * (B - 1) < 23 * length message + B)
-words-of-message B two message x = omega (arith, words-length B two (bits_of message) (message-bits message), bits-length message x)

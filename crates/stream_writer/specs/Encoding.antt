@@ -10,7 +10,7 @@ use Rattle.stream.specs.Stuffing.{put, after, fill, finish, stuff_from, stuff}
 use Rattle.stream.specs.PutLaws.{start}
 use Rattle.stream.specs.StuffingLaws.{fill_none}
 use Rattle.stream.specs.StreamLaws.{stream_end}
-use Rattle.stream.specs.StreamLength.{bits-length}
+use Rattle.stream.proofs.PartLaws.{bits-length}
 use Rattle.stream_writer.specs.declared.encoding.Turn.{Turn}
 use Rattle.stream_writer.specs.declared.stuffing.Out.{Out}
 use Rattle.stream_writer.specs.Writing.{Coded, Wrote, coded_none, coded-then}

@@ -14,7 +14,7 @@ use Rattle.list_laws.specs.Writes.{writes}
 use Rattle.block_code.specs.Nearest.{marked}
 use Rattle.stream.specs.Below.{Bytes}
 use Rattle.stream.specs.Stream.{bits_of}
-use Rattle.stream.specs.StreamLength.{message-bits}
+use Rattle.stream.proofs.PartLaws.{message-bits}
 use Rattle.stream.specs.Stuffing.{flat, stuff}
 use Rattle.stream.specs.StuffingLaws.{stuffed-codewords, codeword-at}
 use Rattle.symbol.specs.Shapes.{side, bits, word_size, words, skipped, word-size-range}
@@ -31,7 +31,8 @@ use Rattle.encoder.specs.Fitting.{size_is, block-valid}
 use Rattle.recovery.specs.Stages.{mode_words_in, mode_marks_in, block_mark, block_words_in, block_marks_in, unread_words, wrong_words}
 use Rattle.decoder.specs.Decode.{decode_of}
 use Rattle.reading_back.specs.Within.{Within}
-use Rattle.reading_back.specs.ReadsBack.{full, L, n, D, K, made_tag, spoilt, Shows, read_back, known, made-symbol, reads-back}
+use Rattle.reading_back.specs.ReadsBack.{full, L, n, D, K, made_tag, spoilt, Shows, read_back, known, made-symbol}
+use Rattle.reading_back.proofs.ReadsBack.{reads-back}
 
 -- nothing passes: none is counted
 pub count-zero : (n : ℕ) (t : ℕ → Bool) → ((i : ℕ) → i < n → t i ≡ false) → count n t ≡ 0

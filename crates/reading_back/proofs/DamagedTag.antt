@@ -21,7 +21,7 @@ use Rattle.block_code.specs.Nearest as nearest
 use Rattle.block_code.specs.NearestLaws.{nearest-some}
 use Rattle.stream.specs.Below.{Bytes}
 use Rattle.stream.specs.Items as items
-use Rattle.stream.specs.RoundTrip.{judge-message}
+use Rattle.stream.proofs.Trips.{judge-message}
 use Rattle.symbol.specs.Shapes.{side, word_size, words, most_words, most_layers, number_of, Shaped, word-size-range}
 use Rattle.symbol.specs.Places.{mode_run, orientation_place}
 use Rattle.symbol.specs.CorePlaces.{core-room, orientation-lt}
@@ -31,7 +31,8 @@ use Rattle.symbol.specs.ShapeTable.{words-fit}
 use Rattle.symbol.specs.GridWords.{value, value-lt, mode_word, block_module, block_word}
 use Rattle.orientation.specs.Modules.{lawful_modules}
 use Rattle.orientation.specs.Sides.{side-of-shape}
-use Rattle.orientation.specs.Family.{looks_full, looks-compact, looks-full}
+use Rattle.orientation.specs.Family.{looks_full, looks-full}
+use Rattle.orientation.proofs.FamilyLaws.{looks-compact}
 use Rattle.orientation.specs.Position.{matches, position}
 use Rattle.orientation.specs.PositionLaws.{Sided, sided, position-is}
 use Rattle.encoder.specs.Plan.{data_words_of}

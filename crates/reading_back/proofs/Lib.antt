@@ -1,0 +1,5 @@
+pub mod AtTheLimit
+pub mod DamagedTag
+pub mod Exactness
+pub mod ReadsBack
+pub mod Undamaged
