@@ -14,7 +14,7 @@ POLYNOMIALS = {4: 0b11, 6: 0b11, 8: 0b101101, 10: 0b1001, 12: 0b1101001}
 HEADER = """\
 // The powers of x and the logarithms of words in the fields of the five word sizes: entry k of POWERS_b is x ^ k, entry a of LOGS_b the
 // exponent of the word a (0 has none, and its entry is 0). A function that names a constant array copies it: so each has one function,
-// which the public entries call once and lend from. Printed by scripts/print_tables.py, 16 entries a row, and not laid out by rt fmt.
+// which the public entries call once and lend from. Printed by scripts/print_tables.py, in the layout of rt fmt.
 ghost use Rattle.std.specs.Prelude.{◌≡◌};
 ghost use Rattle.finite_field.specs.Field.{w4, w6, w8, w10, w12};
 ghost use Rattle.finite_field.specs.Tables.{powers, logs};
