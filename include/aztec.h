@@ -11,6 +11,11 @@
 extern "C" {
 #endif
 
+/* The stack that a call needs, in bytes below its caller. `harness/target/release/harness stack` measures it. */
+#define AZTEC_CORRECT_STACK 90112
+#define AZTEC_ENCODE_STACK 81920
+#define AZTEC_DECODE_STACK 172032
+
 /* The Reed-Solomon corrector. word_size is 4, 6, 8, 10 or 12 bits; the last check_words words of a block are its check words; a mark
    is 0 for a word that was read and 1 for one that was not, whose value is ignored.
    0: corrected holds the one valid block that differs from the words read in r places, with e words marked and 2r + e at most

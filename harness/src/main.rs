@@ -14,6 +14,8 @@
 //! `harness draw-timed FOLDER` draws the symbols that the programs in `peers/` are timed on.
 //! `harness bench-revisions` times and compares the library with another revision's, where it was
 //! built with the feature `revisions`, as `scripts/compare_revisions.py` does.
+//! `harness stack` measures the stack that each entry takes, and fails where it is more than the
+//! header states.
 //! `harness soak SECONDS [--seed N]` compares corrector, maker and reader for a time, with a
 //! fresh seed unless one is given.
 
@@ -32,6 +34,7 @@ mod reference;
 #[cfg(feature = "revisions")]
 mod revisions;
 mod soak;
+mod stack;
 mod stream;
 mod symbol;
 mod times;
@@ -45,7 +48,7 @@ const USAGE: &str = "usage: harness compare [--seed N] [--count N] | harness ben
        harness compare-listing PROGRAM [--seed N] [--count N] | harness bench-listing PROGRAM
        harness own-listing [FILE] | harness draw-list FOLDER [--own]
        harness draw-timed FOLDER | harness soak SECONDS [--seed N]
-       harness bench-revisions";
+       harness stack | harness bench-revisions";
 const SEED: u64 = 24_778;
 
 /// How many cases by chance, where `--count` doesn't say: blocks or messages for the corrector
@@ -84,6 +87,7 @@ fn main() -> ExitCode {
         ["draw-list", folder, "--own"] => encode::draw::run(folder, true),
         ["draw-timed", folder] => encode::timed::run(folder),
         ["bench-revisions"] => bench_revisions(),
+        ["stack"] => stack::run(),
         ["soak", seconds] => soaked(seconds, None),
         ["soak", seconds, "--seed", seed] => soaked(seconds, Some(seed)),
         _ => usage(),

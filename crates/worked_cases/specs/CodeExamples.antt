@@ -46,3 +46,15 @@ pub latch-values :
     ≡ 958 ∷ 494 ∷ 958 ∷ 1020 ∷ 1021 ∷ 1022 ∷ 476 ∷ 477 ∷ 15294 ∷ []
 unfolding bits value chars table row width position paths path latch_code path_bits latch_bits
 latch-values = refl
+
+-- "Upper to Punct by M/L P/L; Lower to Upper by D/L U/L, to Punct by M/L P/L; Mixed to Digit by U/L D/L; from Punct and Digit through
+-- Upper; the rest in one step": the bits of each path as a number
+pub latch-values-all : map (λ s. map (λ t. value 0 (latch_bits s t)) (0 ∷ 1 ∷ 2 ∷ 3 ∷ 4 ∷ [])) (0 ∷ 1 ∷ 2 ∷ 3 ∷ 4 ∷ [])
+    ≡ (0 ∷ 28 ∷ 29 ∷ 958 ∷ 30 ∷ [])
+    ∷ (494 ∷ 0 ∷ 29 ∷ 958 ∷ 30 ∷ [])
+    ∷ (29 ∷ 28 ∷ 0 ∷ 30 ∷ 958 ∷ [])
+    ∷ (31 ∷ 1020 ∷ 1021 ∷ 0 ∷ 1022 ∷ [])
+    ∷ (14 ∷ 476 ∷ 477 ∷ 15294 ∷ 0 ∷ [])
+    ∷ []
+unfolding bits value chars table row width position paths path latch_code path_bits latch_bits
+latch-values-all = refl

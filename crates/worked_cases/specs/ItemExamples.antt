@@ -26,6 +26,36 @@ reads =
     -- "a shift with its character or pair": P/S CR LF; after U/S the set is Lower again, "Ba"
     ∷ (bits 5 0 ++ bits 5 2, message (13 ∷ 10 ∷ []))
     ∷ (bits 5 28 ++ bits 5 28 ++ bits 5 3 ++ bits 5 2, message (66 ∷ 97 ∷ []))
+    -- the other three pairs; the set after a pair is the one before it, by P/S and in Punct itself; after P/S it is again Upper, Lower,
+    -- Mixed or Digit, and after U/S Digit
+    ∷ (bits 5 0 ++ bits 5 3, message (46 ∷ 32 ∷ []))
+    ∷ (bits 5 0 ++ bits 5 4, message (44 ∷ 32 ∷ []))
+    ∷ (bits 5 0 ++ bits 5 5, message (58 ∷ 32 ∷ []))
+    ∷ (bits 5 0 ++ bits 5 5 ++ bits 5 2, message (58 ∷ 32 ∷ 65 ∷ []))
+    ∷ (bits 5 29 ++ bits 5 30 ++ bits 5 3 ++ bits 5 6, message (46 ∷ 32 ∷ 33 ∷ []))
+    ∷ (bits 5 0 ++ bits 5 6 ++ bits 5 2, message (33 ∷ 65 ∷ []))
+    ∷ (bits 5 28 ++ bits 5 0 ++ bits 5 6 ++ bits 5 2, message (33 ∷ 97 ∷ []))
+    ∷ (bits 5 29 ++ bits 5 0 ++ bits 5 6 ++ bits 5 2, message (33 ∷ 1 ∷ []))
+    ∷ (bits 5 30 ++ bits 4 0 ++ bits 5 6 ++ bits 4 3, message (33 ∷ 49 ∷ []))
+    ∷ (bits 5 30 ++ bits 4 15 ++ bits 5 2 ++ bits 4 3, message (65 ∷ 49 ∷ []))
+    -- 19: a shift after a shift, from Lower and from Digit, a latch and B/S after one; and "by the first item at fault"
+    ∷ (bits 5 28 ++ bits 5 28 ++ bits 5 0, refused 19 5)
+    ∷ (bits 5 30 ++ bits 4 15 ++ bits 5 0, refused 19 5)
+    ∷ (bits 5 28 ++ bits 5 28 ++ bits 5 28, refused 19 5)
+    ∷ (bits 5 28 ++ bits 5 28 ++ bits 5 31, refused 19 5)
+    ∷ (bits 5 0 ++ bits 5 0 ++ bits 3 0, refused 19 0)
+    -- 20: after Digit's P/S 4 bits of a code of 5; B/S with 4 bits of its count, with 10 bits of a long one, with 7 bits of a byte, and
+    -- with none of 1055 bytes
+    ∷ (bits 5 30 ++ bits 4 0 ++ bits 4 0, refused 20 5)
+    ∷ (bits 5 31 ++ bits 4 1, refused 20 0)
+    ∷ (bits 5 31 ++ bits 5 0 ++ bits 10 0, refused 20 0)
+    ∷ (bits 5 31 ++ bits 5 1 ++ bits 7 0, refused 20 0)
+    ∷ (bits 5 31 ++ bits 5 0 ++ bits 11 1024, refused 20 0)
+    -- two bytes; the longest short count and the second long one; after B/S the set is Lower again
+    ∷ (bits 5 31 ++ bits 5 2 ++ bits 8 7 ++ bits 8 200, message (7 ∷ 200 ∷ []))
+    ∷ (bits 5 31 ++ bits 5 31 ++ replicate 248 0, message (replicate 31 0))
+    ∷ (bits 5 31 ++ bits 5 0 ++ bits 11 1 ++ replicate 256 0, message (replicate 32 0))
+    ∷ (bits 5 28 ++ bits 5 31 ++ bits 5 1 ++ bits 8 7 ++ bits 5 2, message (7 ∷ 97 ∷ []))
     -- "B/S with count and bytes": two bytes, of which one is there; "0 and then 11 bits of count minus 31", 31 zero bytes
     ∷ (bits 5 31 ++ bits 5 2 ++ bits 8 7, refused 20 0)
     ∷ (bits 5 31 ++ bits 5 0 ++ bits 11 0 ++ replicate 248 0, message (replicate 31 0))
@@ -50,6 +80,14 @@ pub judged : map (judge 6) ((5 ∷ 0 ∷ []) ∷ (5 ∷ 63 ∷ []) ∷ (5 ∷ []
 unfolding bits value all_ones chars table row entry width field complete bytes_at count_at item_by item_at bytes_of stops read_from read_items
     all flat word_bits unstuff_from unstuff judge
 judged = refl
+
+-- 18 "a corrected data word all 0s or all 1s", wherever it stands, and before 19; "A" is 5, and ten 0s, stuffed, are P/S FLG
+pub judged-first :
+    map (judge 6) ((5 ∷ 0 ∷ []) ∷ (5 ∷ 63 ∷ []) ∷ (63 ∷ 5 ∷ []) ∷ (1 ∷ 1 ∷ 63 ∷ []) ∷ (1 ∷ 1 ∷ []) ∷ (5 ∷ []) ∷ [])
+    ≡ refused 18 0 ∷ refused 18 0 ∷ refused 18 0 ∷ refused 18 0 ∷ refused 19 0 ∷ message (65 ∷ []) ∷ []
+unfolding bits value all_ones chars table row entry width field complete bytes_at count_at item_by item_at bytes_of stops read_from read_items
+    all flat word_bits unstuff_from unstuff judge
+judged-first = refl
 
 -- "the bit at which the item at fault starts, counted from 0 after the stuffed bits are dropped" (document 02, 6/12). Of 000001 the last
 -- bit is stuffed: P/S and 00110, "!", are bits 0 to 9, and the last 0 of 001100 is an item cut short

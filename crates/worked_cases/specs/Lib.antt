@@ -1,12 +1,15 @@
 pub mod Cases
 pub mod FieldExamples
 pub mod CorrectorExamples
+pub mod CodeTable
 pub mod CodeExamples
 pub mod StreamExamples
 pub mod ItemExamples
 pub mod SymbolExamples
+pub mod PlaceExamples
 pub mod ReaderExamples
 pub mod LightGrid
 pub mod MakerExamples
 pub mod RoundTripExamples
 pub mod ListingExamples
+pub mod TextExamples

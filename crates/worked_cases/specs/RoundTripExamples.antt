@@ -13,6 +13,11 @@ pub changes : damaged (0 ∷ 1 ∷ 1 ∷ 0 ∷ []) (1 ∷ 2 ∷ 3 ∷ []) ≡ 1 
 unfolding tabulate changed_to damaged
 changes = refl
 
+-- the eight positions, counted from 0 again: 7, 8 and 13
+pub position-taken : (m c b : List ℕ) → round_trip_of m 23 7 c b ∷ round_trip_of m 23 8 c b ∷ round_trip_of m 23 13 c b ∷ []
+    ≡ round_trip_in m 23 7 c b ∷ round_trip_in m 23 0 c b ∷ round_trip_in m 23 5 c b ∷ []
+position-taken m c b = refl
+
 -- the maker's refusal, 1 before 2, and the buffer as it was
 pub not_made : (b : List ℕ) → round_trip_of [] 96 9 [] b ≡ refused 1 b
 unfolding plan.refused plan.plan_of round_trip_in

@@ -25,6 +25,12 @@ unfolding bits chars table row width position code_of has home coded paths path 
     count_bits bytes_bits binary_bits part_bits stream_from next_part bits_of
 comma-in-digit = refl
 
+-- "from Punct or Digit latch to Upper first": "!" and a zero byte are M/L P/L, code 6, U/L, B/S, the count 1 and the byte
+pub run-from-punct : bits_of (33 ∷ 0 ∷ []) ≡ bits 5 29 ++ bits 5 30 ++ bits 5 6 ++ bits 5 31 ++ bits 5 31 ++ bits 5 1 ++ bits 8 0
+unfolding bits chars table row width position code_of has home coded paths path latch_code path_bits latch_bits target char_bits run_length run_set
+    count_bits bytes_bits binary_bits part_bits stream_from next_part bits_of
+run-from-punct = refl
+
 -- "@", a zero byte, "@": after B/S Mixed is still the set; "1", a zero byte, "A": "from Punct or Digit latch to Upper first"; "AN": the
 -- last word "would be all 1s"
 pub words : map (λ m. stuff 6 (bits_of m)) ((64 ∷ 0 ∷ 64 ∷ []) ∷ (49 ∷ 0 ∷ 65 ∷ []) ∷ (65 ∷ 78 ∷ []) ∷ [])

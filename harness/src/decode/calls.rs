@@ -30,7 +30,7 @@ extern "C" {
 }
 
 /// The library's reader, where the archive had one when the harness was built.
-fn library() -> Option<Decode> {
+pub fn library() -> Option<Decode> {
     #[cfg(aztec_decode)]
     let found = Some(aztec_decode as Decode);
     #[cfg(not(aztec_decode))]
