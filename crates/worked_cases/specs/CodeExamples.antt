@@ -47,8 +47,7 @@ pub latch-values :
 unfolding bits value chars table row width position paths path latch_code path_bits latch_bits
 latch-values = refl
 
--- "Upper to Punct by M/L P/L; Lower to Upper by D/L U/L, to Punct by M/L P/L; Mixed to Digit by U/L D/L; from Punct and Digit through
--- Upper; the rest in one step": the bits of each path as a number
+-- and "the rest in one step": the bits of each path as a number, by the set before and the set after
 pub latch-values-all : map (λ s. map (λ t. value 0 (latch_bits s t)) (0 ∷ 1 ∷ 2 ∷ 3 ∷ 4 ∷ [])) (0 ∷ 1 ∷ 2 ∷ 3 ∷ 4 ∷ [])
     ≡ (0 ∷ 28 ∷ 29 ∷ 958 ∷ 30 ∷ [])
     ∷ (494 ∷ 0 ∷ 29 ∷ 958 ∷ 30 ∷ [])

@@ -81,10 +81,9 @@ unfolding bits value all_ones chars table row entry width field complete bytes_a
     all flat word_bits unstuff_from unstuff judge
 judged = refl
 
--- 18 "a corrected data word all 0s or all 1s", wherever it stands, and before 19; "A" is 5, and ten 0s, stuffed, are P/S FLG
+-- and in the first word, and before 19, which alone it is of ten 0s, stuffed, P/S FLG
 pub judged-first :
-    map (judge 6) ((5 ∷ 0 ∷ []) ∷ (5 ∷ 63 ∷ []) ∷ (63 ∷ 5 ∷ []) ∷ (1 ∷ 1 ∷ 63 ∷ []) ∷ (1 ∷ 1 ∷ []) ∷ (5 ∷ []) ∷ [])
-    ≡ refused 18 0 ∷ refused 18 0 ∷ refused 18 0 ∷ refused 18 0 ∷ refused 19 0 ∷ message (65 ∷ []) ∷ []
+    map (judge 6) ((63 ∷ 5 ∷ []) ∷ (1 ∷ 1 ∷ 63 ∷ []) ∷ (1 ∷ 1 ∷ []) ∷ []) ≡ refused 18 0 ∷ refused 18 0 ∷ refused 19 0 ∷ []
 unfolding bits value all_ones chars table row entry width field complete bytes_at count_at item_by item_at bytes_of stops read_from read_items
     all flat word_bits unstuff_from unstuff judge
 judged-first = refl

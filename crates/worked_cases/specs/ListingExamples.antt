@@ -55,14 +55,10 @@ pub short-files : map listing ((3 ∷ []) ∷ [] ∷ []) ≡ (49 ∷ 32 ∷ 98 �
 unfolding digit decimal_in decimal message_length unused all_zero sound bad_word record_fields line_of record_at first_lines lines_from listing
 short-files = refl
 
--- "1 bad" for a file of one byte; "an empty file gives no output"; "1 bad" and "2 bad" for 33 bytes
-pub short-files-and-two : map listing ((3 ∷ []) ∷ [] ∷ replicate 33 0 ∷ [])
-    ≡ (49 ∷ 32 ∷ 98 ∷ 97 ∷ 100 ∷ 10 ∷ [])
-    ∷ []
-    ∷ (49 ∷ 32 ∷ 98 ∷ 97 ∷ 100 ∷ 10 ∷ 50 ∷ 32 ∷ 98 ∷ 97 ∷ 100 ∷ 10 ∷ [])
-    ∷ []
+-- "1 bad" and "2 bad" for 33 bytes
+pub bad-lines : listing (replicate 33 0) ≡ 49 ∷ 32 ∷ 98 ∷ 97 ∷ 100 ∷ 10 ∷ 50 ∷ 32 ∷ 98 ∷ 97 ∷ 100 ∷ 10 ∷ []
 unfolding digit decimal_in decimal message_length unused all_zero sound bad_word record_fields line_of record_at first_lines lines_from listing
-short-files-and-two = refl
+bad-lines = refl
 
 -- a single dark module stands in row 2 of five; the line of rows 1 and 2 shows it as a lower half block, U+2584
 pub module-below : terminal_line (1 ∷ []) 1 1 ≡ black_on_white ++ (32 ∷ 32 ∷ 226 ∷ 150 ∷ 132 ∷ 32 ∷ 32 ∷ []) ++ reset

@@ -68,16 +68,11 @@ unfolding grid tabulate count flat side square bits word_size words skipped turn
     value unread module_at block_module block_word block_mark block_marks_in unread_words wrong_words
 counts = (refl, refl, refl)
 
--- "words with an unread module, and fully read words that differ from the block found", here 0 or 1 where word 0 is unread; the marks with
--- three data words
-pub counts-of-unread :
-    (unread_words false 1 0 grid ≡ 1)
-    × (wrong_words false 1 0 grid (replicate 17 0) ≡ 1)
-    × (wrong_words false 1 0 grid (1 ∷ replicate 16 0) ≡ 1)
-    × (block_marks_in false 1 3 0 grid ≡ 1 ∷ 1 ∷ 1 ∷ replicate 14 0)
-unfolding grid tabulate count flat side square bits word_size words skipped turned domino layer_cell cell spread data_place place_in
-    value unread module_at block_module block_word block_mark block_marks_in unread_words wrong_words
-counts-of-unread = (refl, refl, refl, refl)
+-- and where the block found has 1 for word 0, which is unread
+pub unread-not-wrong : wrong_words false 1 0 grid (1 ∷ replicate 16 0) ≡ 1
+unfolding grid tabulate count side square bits word_size words skipped turned domino layer_cell cell spread data_place place_in
+    value unread module_at block_module block_word wrong_words
+unread-not-wrong = refl
 
 -- mode words of 4 bits: light but for the last bit of word 0, unread, and the first of word 1, dark. These stand at places 37 and 38 in
 -- side 15, at 45 and 46 in side 19
@@ -118,10 +113,10 @@ pub modules : map lawful_modules ((0 ∷ 1 ∷ 2 ∷ []) ∷ (3 ∷ []) ∷ []) 
 unfolding all lawful_modules
 modules = refl
 
--- 13 "a module above 2"
-pub modules-of-bytes : map lawful_modules ((0 ∷ 1 ∷ 2 ∷ []) ∷ (3 ∷ []) ∷ (0 ∷ 0 ∷ 255 ∷ []) ∷ []) ≡ true ∷ false ∷ false ∷ []
+-- in the last place too, and whatever the byte
+pub last-module : lawful_modules (0 ∷ 0 ∷ 255 ∷ []) ≡ false
 unfolding all lawful_modules
-modules-of-bytes = refl
+last-module = refl
 
 module _ (b : List ℕ) where
   -- 11 "side is not a shape's", 12 "grid length isn't side²", 13, 14 "no single best position with 9 matches": "Lower numbers come first
@@ -138,18 +133,10 @@ module _ (b : List ℕ) where
       has_side is_side looks_full matches single position lawful_modules grid_walk walk_of decode_of
   refusals = refl
 
-  pub refusals-of-lengths :
-      decode_of [] 16 b
-      ∷ decode_of [] 15 b
-      ∷ decode_of (3 ∷ []) 15 b
-      ∷ decode_of (3 ∷ replicate 224 0) 15 b
-      ∷ decode_of (replicate 224 0 ++ 3 ∷ []) 16 b
-      ∷ decode_of (replicate 225 0) 15 b
-      ∷ []
-      ≡ refused 11 b ∷ refused 12 b ∷ refused 12 b ∷ refused 13 b ∷ refused 11 b ∷ refused 14 b ∷ []
-  unfolding all count first_from side is_full layers core turned core_place orientation_cell orientation_place orientation_bits place_in
-      has_side is_side looks_full matches single position lawful_modules grid_walk walk_of decode_of
-  refusals-of-lengths = refl
+  -- 12 before 13
+  pub length-first : decode_of (3 ∷ []) 15 b ≡ refused 12 b
+  unfolding all first_from side is_full layers has_side is_side lawful_modules walk_of decode_of
+  length-first = refl
 
 -- "Any other number comes with zeros in every other field and untouched buffers"
 pub zeros : (k : ℕ) (b : List ℕ) → refused k b

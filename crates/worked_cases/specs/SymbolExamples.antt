@@ -12,9 +12,8 @@ pub compact-pattern : map (λ (d : ℕ × ℕ). fixed_at false d.0 d.1) ((0, 0) 
 unfolding core target reference fixed_at
 compact-pattern = refl
 
--- "Target: modules with max(|x|,|y|) at most 4 (compact) [..] are dark when that maximum is even"; outside it a compact symbol has no grid
-pub compact-corners : map (λ (d : ℕ × ℕ). fixed_at false d.0 d.1) ((0, 0) ∷ (1, 0) ∷ (4, 2) ∷ (3, 3) ∷ (5, 0) ∷ (4, 4) ∷ (6, 4) ∷ [])
-    ≡ 1 ∷ 0 ∷ 1 ∷ 0 ∷ 0 ∷ 1 ∷ 0 ∷ []
+-- the target's corner, and a module beyond it
+pub compact-corners : map (λ (d : ℕ × ℕ). fixed_at false d.0 d.1) ((4, 4) ∷ (6, 4) ∷ []) ≡ 1 ∷ 0 ∷ []
 unfolding core target reference fixed_at
 compact-corners = refl
 
