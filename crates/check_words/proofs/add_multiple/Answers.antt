@@ -13,21 +13,20 @@ loop-i-init c = (search rules, search rules, filled_none _ _)
 
 pub times_power-requires : goal.times_power-requires
 times_power-requires c =
-    let s = c in record {
-      fact_1 = s.requires.tables_1;
-      fact_2 = s.requires.tables_2 c.loop-i.i;
-      fact_3 = s.requires.k_bound_1;
+    record {
+      fact_1 = c.requires.tables_1;
+      fact_2 = c.requires.tables_2 c.loop-i.i;
+      fact_3 = c.requires.k_bound_1;
     }
 
 pub loop-i-preserved : goal.loop-i-preserved
 loop-i-preserved c =
-    let s = c in
     let l = c.loop-i in
-    let h : l.i < length s.args.tail.now = omega arith in (
+    let h : l.i < length c.args.tail.now = omega arith in (
       search rules,
       simp length-set (search rules),
-      filled-step _ l.i s.args.tail.now l.invariant.2
-          (ap₂ ◌⊕◌ (not-yet-filled _ l.i l.i s.args.tail.now l.invariant.2 (le_refl l.i)) c.times_power.ensures) h,
+      filled-step _ l.i c.args.tail.now l.invariant.2
+          (ap₂ ◌⊕◌ (not-yet-filled _ l.i l.i c.args.tail.now l.invariant.2 (le_refl l.i)) c.times_power.ensures) h,
     )
 
 pub returns : goal.returns

@@ -11,39 +11,35 @@ loop-i-init c = (search rules, search rules, refl, filled_none _ _)
 
 pub times_power-requires : goal.times_power-requires
 times_power-requires c =
-    let s = c in
     let l = c.loop-i in record {
-      fact_1 = s.requires.tables_1;
-      fact_2 = carried-word (size_of s.args.size) s.args.k s.args.m s.args.g.now l.i s.requires.tables_2 l.invariant.2;
-      fact_3 = s.requires.k_bound_1;
+      fact_1 = c.requires.tables_1;
+      fact_2 = carried-word (size_of c.args.size) c.args.k c.args.m c.args.g.now l.i c.requires.tables_2 l.invariant.2;
+      fact_3 = c.requires.k_bound_1;
     }
 
 pub loop-i-preserved : goal.loop-i-preserved
 loop-i-preserved c =
-    let s = c in
     let l = c.loop-i in
-    let h : l.i < s.args.m = search rules in (
+    let h : l.i < c.args.m = search rules in (
       search rules,
       simp length-set (search rules),
-      carried-next (size_of s.args.size) s.args.k s.args.m s.args.g.now l.invariant.3 h,
-      rooting-next (size_of s.args.size) s.args.k s.args.m s.args.g.now l.invariant.3 l.invariant.2 c.times_power.ensures h s.requires.k_bound_2,
+      carried-next (size_of c.args.size) c.args.k c.args.m c.args.g.now l.invariant.3 h,
+      rooting-next (size_of c.args.size) c.args.k c.args.m c.args.g.now l.invariant.3 l.invariant.2 c.times_power.ensures h c.requires.k_bound_2,
     )
 
 pub times_power-requires-2 : goal.times_power-requires-2
 times_power-requires-2 c =
-    let s = c in
     let l = c.loop-i in record {
-      fact_1 = s.requires.tables_1;
-      fact_2 = carried-word (size_of s.args.size) s.args.k s.args.m s.args.g.now l.i s.requires.tables_2 l.invariant.2;
-      fact_3 = s.requires.k_bound_1;
+      fact_1 = c.requires.tables_1;
+      fact_2 = carried-word (size_of c.args.size) c.args.k c.args.m c.args.g.now l.i c.requires.tables_2 l.invariant.2;
+      fact_3 = c.requires.k_bound_1;
     }
 
 pub returns : goal.returns
 returns c =
-    let s = c in
     let l = c.loop-i in
-    let size = size_of s.args.size in
-    let done : l.i ≡ s.args.m = omega arith in
-    rooted-last size s.args.k s.args.m s.args.g.now
-    (l.invariant.3 ∙ ap (λ n. filled (rooting size s.args.k (take s.args.m s.args.g.now)) n s.args.g.now) done)
-    (l.invariant.2 ∙ ap (carried size s.args.k s.args.m s.args.g.now) done) c.times_power-2.ensures s.requires.k_bound_2
+    let size = size_of c.args.size in
+    let done : l.i ≡ c.args.m = omega arith in
+    rooted-last size c.args.k c.args.m c.args.g.now
+    (l.invariant.3 ∙ ap (λ n. filled (rooting size c.args.k (take c.args.m c.args.g.now)) n c.args.g.now) done)
+    (l.invariant.2 ∙ ap (carried size c.args.k c.args.m c.args.g.now) done) c.times_power-2.ensures c.requires.k_bound_2

@@ -18,8 +18,7 @@ leaving-word c = xor-word (size_of (start c).args.size) (start c).requires.word_
 
 pub returns-then-factor-eq0 : goal.returns-then-factor-eq0
 returns-then-factor-eq0 c =
-    let s = c in
-    step-of-zero (size_of s.args.size) s.args.g.now s.args.tail.now s.args.word s.requires.tail_len_1
+    step-of-zero (size_of c.args.size) c.args.g.now c.args.tail.now c.args.word c.requires.tail_len_1
     c.move_up.ensures c.if-factor-eq0.true
 
 pub overflow_cast-i : goal.overflow_cast-i

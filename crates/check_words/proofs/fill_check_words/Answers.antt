@@ -1,6 +1,6 @@
 -- Each arm lends copies of the tables of its size.
 -- Assumes nothing.
-use Rattle.std.proofs.Common.{sym, ap, subst, ℕ, ◌^◌, ◌<◌, length}
+use Rattle.std.proofs.Common.{arith, sym, ap, subst, ℕ, ◌^◌, ◌<◌, length}
 use Rattle.finite_field.specs.Field.{w4, w6, w8, w10, w12, size_of, bits}
 use Rattle.check_words.proofs.Sizes.{tables-at, last-size}
 use Rattle.check_words.proofs.fill_check_words.Goals as goal
@@ -39,8 +39,7 @@ fill-requires-in-10 c =
 
 pub fill-requires-in_default : goal.fill-requires-in_default
 fill-requires-in_default c =
-    let s = (goal.at.fill-requires-in_default c).Start in
-    let o = c.in_default.in_default-own.rest in record {
-      tables = (tables-at s.args.size w12 (last-size s.args.size o.0.0.0.1 o.0.0.1 o.0.1 o.1) c.powers_12.ensures c.logs_12.ensures, below-order s);
+    let s = (goal.at.fill-requires-in_default c).Start in record {
+      tables = (tables-at s.args.size w12 (last-size s.args.size (omega arith) (omega arith) (omega arith) (omega arith)) c.powers_12.ensures c.logs_12.ensures, below-order s);
       data_words_in_bounds = (s.requires.size_value_2, s.requires.words);
     }

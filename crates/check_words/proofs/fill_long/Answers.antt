@@ -7,10 +7,10 @@ use Rattle.check_words.proofs.fill_long.Goals as goal
 
 pub fill_by-requires : goal.fill_by-requires
 fill_by-requires c =
-    let s = c in record {
-      tables_1 = s.requires.tables_1;
-      tables_2 = omega (arith, s.requires.tables_2, most-words (size_of s.args.size));
-      tables_3 = s.requires.tables_2;
-      data_words_in_bounds_1 = s.requires.data_words_in_bounds_1;
-      data_words_in_bounds_2 = s.requires.data_words_in_bounds_2;
+    record {
+      tables_1 = c.requires.tables_1;
+      tables_2 = omega (arith, c.requires.tables_2, most-words (size_of c.args.size));
+      tables_3 = c.requires.tables_2;
+      data_words_in_bounds_1 = c.requires.data_words_in_bounds_1;
+      data_words_in_bounds_2 = c.requires.data_words_in_bounds_2;
     }

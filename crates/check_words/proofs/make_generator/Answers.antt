@@ -10,25 +10,22 @@ loop-k-init c = (search rules, search rules, generating-none _ _)
 
 pub add_root-requires : goal.add_root-requires
 add_root-requires c =
-    let s = c in
     let l = c.loop-k in record {
-      tables_1 = s.requires.fact_1;
-      tables_2 = generating-words (size_of s.args.size) s.args.g.now l.k l.invariant.2;
+      tables_1 = c.requires.fact_1;
+      tables_2 = generating-words (size_of c.args.size) c.args.g.now l.k l.invariant.2;
       k_bound_1 = omega arith;
       k_bound_2 = omega arith;
     }
 
 pub loop-k-preserved : goal.loop-k-preserved
 loop-k-preserved c =
-    let s = c in
     let l = c.loop-k in (
       search rules,
       search rules,
-      generating-next (size_of s.args.size) s.args.g.now l.k l.invariant.2 c.add_root.ensures,
+      generating-next (size_of c.args.size) c.args.g.now l.k l.invariant.2 c.add_root.ensures,
     )
 
 pub returns : goal.returns
 returns c =
-    let s = c in
-    let done : c.loop-k.k ≡ length s.args.g.now = omega arith in
-    c.loop-k.invariant.2 ∙ ap (generating (size_of s.args.size) s.args.g.now) done ∙ generating-all (size_of s.args.size) s.args.g.now
+    let done : c.loop-k.k ≡ length c.args.g.now = omega arith in
+    c.loop-k.invariant.2 ∙ ap (generating (size_of c.args.size) c.args.g.now) done ∙ generating-all (size_of c.args.size) c.args.g.now

@@ -11,14 +11,13 @@ loop-i-init c = (search rules, search rules, filled_none _ _)
 
 pub loop-i-preserved : goal.loop-i-preserved
 loop-i-preserved c =
-    let s = c in
     let l = c.loop-i in
-    let h : l.i < length s.args.tail.now = omega arith in
+    let h : l.i < length c.args.tail.now = omega arith in
     let later : l.i ≤ l.i + 1 = omega arith in (
       search rules,
       simp length-set (search rules),
-      filled-step _ l.i s.args.tail.now l.invariant.2
-          (not-yet-filled _ l.i (l.i + 1) s.args.tail.now l.invariant.2 later) h,
+      filled-step _ l.i c.args.tail.now l.invariant.2
+          (not-yet-filled _ l.i (l.i + 1) c.args.tail.now l.invariant.2 later) h,
     )
 
 pub returns : goal.returns

@@ -6,7 +6,7 @@ use Rattle.drawing.proofs.draw_large.Goals as goal
 
 pub draw_block_by-requires : goal.draw_block_by-requires
 draw_block_by-requires c =
-    let s = c in record {
-      fact_1 = s.requires.fact_1;
-      fact_2 = (s.requires.fact_2.0, s.requires.fact_2.1, bits_most s.args.full s.args.layers (most-layers _ _ s.requires.fact_1));
+    record {
+      fact_1 = c.requires.fact_1;
+      fact_2 = (c.requires.fact_2.0, c.requires.fact_2.1, bits_most c.args.full c.args.layers (most-layers _ _ c.requires.fact_1));
     }

@@ -26,12 +26,11 @@ pub side_of-requires : goal.side_of-requires
 side_of-requires c = most-layers _ _ c.requires.fact_1
 
 pub mode_places-requires : goal.mode_places-requires
-mode_places-requires c =
-    let s = c in (
-      omega (arith, core-room s.args.full s.args.layers s.requires.fact_1),
-      omega (arith, side-most s.args.full s.args.layers s.requires.fact_1),
-      omega (arith, run-most s.args.full),
-    )
+mode_places-requires c = (
+  omega (arith, core-room c.args.full c.args.layers c.requires.fact_1),
+  omega (arith, side-most c.args.full c.args.layers c.requires.fact_1),
+  omega (arith, run-most c.args.full),
+)
 
 pub draw_words-requires : goal.draw_words-requires
 draw_words-requires c =

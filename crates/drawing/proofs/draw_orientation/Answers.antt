@@ -28,21 +28,19 @@ pub side_of-requires : goal.side_of-requires
 side_of-requires c = most-layers _ _ c.requires.fact_1
 
 pub orientation_places-requires : goal.orientation_places-requires
-orientation_places-requires c =
-    let s = c in (
-      omega (arith, core-room s.args.full s.args.layers s.requires.fact_1),
-      omega (arith, side-most s.args.full s.args.layers s.requires.fact_1),
-      omega arith,
-    )
+orientation_places-requires c = (
+  omega (arith, core-room c.args.full c.args.layers c.requires.fact_1),
+  omega (arith, side-most c.args.full c.args.layers c.requires.fact_1),
+  omega arith,
+)
 
 pub draw_words-requires : goal.draw_words-requires
 draw_words-requires c =
-    let s = c in
-    let a = s.args in
+    let a = c.args in
     let n = side a.full a.layers in record {
       le_size = (search rules, search rules, search rules);
       places_fit = table_fits (replicate 12 0) (orientation_place a.full n) 12 (omega arith) (made (goal.at.draw_words-requires c).After-orientation_places) refl _
-          (λ i h. omega (arith, s.requires.fact_2, orientation-lt a.full n (core-room a.full a.layers s.requires.fact_1) i h));
+          (λ i h. omega (arith, c.requires.fact_2, orientation-lt a.full n (core-room a.full a.layers c.requires.fact_1) i h));
     }
 
 pub returns : goal.returns

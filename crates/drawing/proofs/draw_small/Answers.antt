@@ -14,7 +14,7 @@ few_bits true L h = below 112 L (omega arith) h
 
 pub draw_block_by-requires : goal.draw_block_by-requires
 draw_block_by-requires c =
-    let s = c in record {
-      fact_1 = s.requires.fact_1;
-      fact_2 = (s.requires.fact_3.0, s.requires.fact_3.1, few_bits s.args.full s.args.layers s.requires.fact_2);
+    record {
+      fact_1 = c.requires.fact_1;
+      fact_2 = (c.requires.fact_3.0, c.requires.fact_3.1, few_bits c.args.full c.args.layers c.requires.fact_2);
     }

@@ -15,9 +15,9 @@ room c = let a = (start (goal.at.In-loop-w c).At-loop-w).args in word_room a.siz
 
 pub draw_zeros-requires : goal.draw_zeros-requires
 draw_zeros-requires c =
-    let s = c in record {
+    record {
       fact_1 = omega arith;
-      fact_2 = λ i h. s.requires.places_fit i (omega arith);
+      fact_2 = λ i h. c.requires.places_fit i (omega arith);
     }
 
 pub loop-w-init : goal.loop-w-init

@@ -13,10 +13,8 @@ returns-then-a-eq0 c =
 
 pub overflow_sub-result : goal.overflow_sub-result
 overflow_sub-result c =
-    let s = c in
-    omega (arith, log-word s.requires.fact_1 s.requires.fact_2 c.if-a-eq0.false c.wide.ensures)
+    omega (arith, log-word c.requires.fact_1 c.requires.fact_2 c.if-a-eq0.false c.wide.ensures)
 
 pub returns : goal.returns
 returns c =
-    let s = c in
-    inverse-at s.requires.fact_1 s.requires.fact_2 c.if-a-eq0.false c.wide.ensures
+    inverse-at c.requires.fact_1 c.requires.fact_2 c.if-a-eq0.false c.wide.ensures

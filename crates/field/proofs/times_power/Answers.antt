@@ -8,31 +8,26 @@ use Rattle.field.proofs.times_power.Goals as goal
 
 pub returns-then-a-eq0 : goal.returns-then-a-eq0
 returns-then-a-eq0 c =
-    let s = c in
-    let size = size_of s.args.size in
-    sym (ap (λ (x : ℕ). product size x (power size s.args.k)) c.if-a-eq0.true ∙ product-zero-left size (power size s.args.k))
+    let size = size_of c.args.size in
+    sym (ap (λ (x : ℕ). product size x (power size c.args.k)) c.if-a-eq0.true ∙ product-zero-left size (power size c.args.k))
 
 pub turned-requires : goal.turned-requires
 turned-requires c =
-    let s = c in
-    let e-lt = log-word s.requires.fact_1 s.requires.fact_2 c.if-a-eq0.false c.wide-e.ensures in record {
-      fact_1 = s.requires.fact_1.exp-length;
+    let e-lt = log-word c.requires.fact_1 c.requires.fact_2 c.if-a-eq0.false c.wide-e.ensures in record {
+      fact_1 = c.requires.fact_1.exp-length;
       fact_2 = omega arith;
-      fact_3 = omega (arith, s.requires.fact_1.exp-length);
+      fact_3 = omega (arith, c.requires.fact_1.exp-length);
     }
 
 pub offset_bounds-powers-turned : goal.offset_bounds-powers-turned
 offset_bounds-powers-turned c =
-    let s = c in
     omega
-    (arith, within s.requires.fact_1 s.requires.fact_2 s.requires.fact_3 c.if-a-eq0.false c.wide-e.ensures c.turned.ensures)
+    (arith, within c.requires.fact_1 c.requires.fact_2 c.requires.fact_3 c.if-a-eq0.false c.wide-e.ensures c.turned.ensures)
 
 pub bounds-powers-turned : goal.bounds-powers-turned
 bounds-powers-turned c =
-    let s = c in
-    within s.requires.fact_1 s.requires.fact_2 s.requires.fact_3 c.if-a-eq0.false c.wide-e.ensures c.turned.ensures
+    within c.requires.fact_1 c.requires.fact_2 c.requires.fact_3 c.if-a-eq0.false c.wide-e.ensures c.turned.ensures
 
 pub returns : goal.returns
 returns c =
-    let s = c in
-    at_sum s.requires.fact_1 s.requires.fact_2 s.requires.fact_3 c.if-a-eq0.false c.wide-e.ensures c.turned.ensures
+    at_sum c.requires.fact_1 c.requires.fact_2 c.requires.fact_3 c.if-a-eq0.false c.wide-e.ensures c.turned.ensures

@@ -9,13 +9,11 @@ loop-i-init c = (omega arith, refl)
 
 pub returns-then-bytes-i-ne0 : goal.returns-then-bytes-i-ne0
 returns-then-bytes-i-ne0 c =
-    let l = c in
-    sym (zero-fails _ l.loop-i.i (omega arith) c.if-bytes-i-ne0.true) ∙ l.loop-i.invariant.1
+    sym (zero-fails _ c.loop-i.i (omega arith) c.if-bytes-i-ne0.true) ∙ c.loop-i.invariant.1
 
 pub loop-i-preserved : goal.loop-i-preserved
 loop-i-preserved c =
-    let l = c in
-    (omega arith, sym (zero-next _ l.loop-i.i (omega arith) c.if-bytes-i-ne0.false) ∙ l.loop-i.invariant.1)
+    (omega arith, sym (zero-next _ c.loop-i.i (omega arith) c.if-bytes-i-ne0.false) ∙ c.loop-i.invariant.1)
 
 pub returns : goal.returns
 returns c = sym (zero-end _ c.loop-i.i (omega arith)) ∙ c.loop-i.invariant.1

@@ -20,9 +20,8 @@ pub returns-then-not-is_sound : goal.returns-then-not-is_sound
 unfolding record_fields bad_word message_length percentage message
 returns-then-not-is_sound c =
     let bytes = c.args.«record».now in
-    let t = c in
     let word = c.put_word.ensures in
-    let bad : sound bytes ≡ false = sym t.is_sound.ensures ∙ t.if-not-is_sound.true in record {
+    let bad : sound bytes ≡ false = sym c.is_sound.ensures ∙ c.if-not-is_sound.true in record {
       put = rw bad word;
       upper_bound = omega (arith, word.end);
     }

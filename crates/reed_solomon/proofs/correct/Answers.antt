@@ -1,6 +1,6 @@
 -- Each arm is lent copies of the tables of its word size, which its key names.
 -- Assumes nothing.
-use Rattle.std.proofs.Common.{◌≡◌, refl}
+use Rattle.std.proofs.Common.{arith, ◌≡◌, refl}
 use Rattle.finite_field.specs.Field.{WordSize, w4, w6, w8, w10, w12, bits, size_of}
 use Rattle.finite_field.specs.Tables.{tables-of}
 use Rattle.reed_solomon.specs.Correct.{correct_of, judge_of}
@@ -45,33 +45,28 @@ returns-then-corrected-received c =
 
 pub judge-requires : goal.judge-requires
 judge-requires c =
-    let m = c in
     let tables = tables-of w4 c.powers_4.ensures c.logs_4.ensures in
-    (tables, (m.if-marks-received.false, m.if-corrected-received.false))
+    (tables, (c.if-marks-received.false, c.if-corrected-received.false))
 
 pub judge-requires-in-6 : goal.judge-requires-in-6
 judge-requires-in-6 c =
-    let m = c in
     let tables = tables-of w6 c.powers_6.ensures c.logs_6.ensures in
-    (tables, (m.if-marks-received.false, m.if-corrected-received.false))
+    (tables, (c.if-marks-received.false, c.if-corrected-received.false))
 
 pub judge-requires-in-8 : goal.judge-requires-in-8
 judge-requires-in-8 c =
-    let m = c in
     let tables = tables-of w8 c.powers_8.ensures c.logs_8.ensures in
-    (tables, (m.if-marks-received.false, m.if-corrected-received.false))
+    (tables, (c.if-marks-received.false, c.if-corrected-received.false))
 
 pub judge-requires-in-10 : goal.judge-requires-in-10
 judge-requires-in-10 c =
-    let m = c in
     let tables = tables-of w10 c.powers_10.ensures c.logs_10.ensures in
-    (tables, (m.if-marks-received.false, m.if-corrected-received.false))
+    (tables, (c.if-marks-received.false, c.if-corrected-received.false))
 
 pub judge-requires-in-12 : goal.judge-requires-in-12
 judge-requires-in-12 c =
-    let m = c in
     let tables = tables-of w12 c.powers_12.ensures c.logs_12.ensures in
-    (tables, (m.if-marks-received.false, m.if-corrected-received.false))
+    (tables, (c.if-marks-received.false, c.if-corrected-received.false))
 
 pub returns-in-4 : goal.returns-in-4
 returns-in-4 c =
@@ -116,11 +111,10 @@ returns-in-12 c =
 pub returns-in_default : goal.returns-in_default
 returns-in_default c =
     let all = let a = (start (goal.at.returns-in_default c).Else-marks-received).args in
-    let n = c.in_default.in_default-own.rest in
     as-answer
     (correct-32 a.word_size a.check_words a.received.now a.marks.now a.corrected.now
     (c.if-marks-received.false, c.if-corrected-received.false)
-    (not-a-size a.word_size n.0.0.0.0.1 n.0.0.0.1 n.0.0.1 n.0.1 n.1 (size_of a.word_size)))
+    (not-a-size a.word_size (omega arith) (omega arith) (omega arith) (omega arith) (omega arith) (size_of a.word_size)))
     (refl, refl) in record {
       value = all.0;
       corrected_after = all.1;

@@ -12,10 +12,9 @@ use Rattle.repair.proofs.repair_in.Goals as goal
 
 pub propose-requires : goal.propose-requires
 propose-requires c =
-    let s = c in
-    let d = s.requires.tables_2 in
+    let d = c.requires.tables_2 in
     let l = d.lawful in record {
-      tables_1 = s.requires.tables_1;
+      tables_1 = c.requires.tables_1;
       tables_2 = d.are.words;
       tables_3 = d.are.above;
       tables_4 = omega (arith, d.longer, l.same_length);
@@ -23,44 +22,42 @@ propose-requires c =
       marks_bound_2 = l.limit-le;
       marks_bound_3 = omega (arith, l.check-lt, l.same_length);
       marks_bound_4 = omega (arith, l.length-lt, l.same_length);
-      work = work-for l.same_length s.requires.work;
+      work = work-for l.same_length c.requires.work;
     }
 
 pub is_near-requires : goal.is_near-requires
 is_near-requires c =
-    let s = c in
-    let d = s.requires.tables_2 in
+    let d = c.requires.tables_2 in
     let l = d.lawful in record {
-      tables_1 = s.requires.tables_1;
+      tables_1 = c.requires.tables_1;
       tables_2 = c.propose.ensures.words;
       tables_3 = d.are.words;
-      marks_in_bounds_1 = omega (arith, c.propose.auto.corrections, s.requires.work.missing.longer, l.same_length);
+      marks_in_bounds_1 = omega (arith, c.propose.auto.corrections, c.requires.work.missing.longer, l.same_length);
       marks_in_bounds_2 = omega (arith, l.length-lt, l.same_length);
       marks_in_bounds_3 = omega (arith, d.longer, l.check-lt);
     }
 
 pub write-requires : goal.write-requires
 write-requires c =
-    let s = c in record {
-      fact_1 = s.requires.tables_2.lawful.same_length;
-      fact_2 = s.requires.tables_3;
-      fact_3 = omega (arith, c.propose.auto.corrections, s.requires.work.missing.longer);
+    record {
+      fact_1 = c.requires.tables_2.lawful.same_length;
+      fact_2 = c.requires.tables_3;
+      fact_3 = omega (arith, c.propose.auto.corrections, c.requires.work.missing.longer);
     }
 
 pub returns-then-is_near : goal.returns-then-is_near
 returns-then-is_near c =
-    let s = c in
-    let d = s.requires.tables_2 in
+    let d = c.requires.tables_2 in
     let l = d.lawful in
-    let size = size_of s.args.size in
-    let received = s.args.received.now in
-    let marks = s.args.marks.now in
-    let sums = subst (λ (n : ℕ). SyndromesOf size s.args.check_words n (read_word size received marks) s.args.s.now) (sym l.same_length) d.are.sums in
+    let size = size_of c.args.size in
+    let received = c.args.received.now in
+    let marks = c.args.marks.now in
+    let sums = subst (λ (n : ℕ). SyndromesOf size c.args.check_words n (read_word size received marks) c.args.s.now) (sym l.same_length) d.are.sums in
     let corrections = c.propose.new.corrections in
     let words = c.propose.ensures.words in
     let block = tabulate (written_at received marks corrections) (length received) in
-    let out : nearest size s.args.check_words s.args.limit received marks ≡ some block
-    = answer-found size s.args.check_words s.args.limit received marks l.same_length l.readable l.limit-le l.length-lt
+    let out : nearest size c.args.check_words c.args.limit received marks ≡ some block
+    = answer-found size c.args.check_words c.args.limit received marks l.same_length l.readable l.limit-le l.length-lt
     block corrections (length-tabulate (written_at received marks corrections) (length received))
     (written-words size received marks corrections l.readable words)
     (written_entry size received marks corrections l.readable words)
@@ -69,15 +66,14 @@ returns-then-is_near c =
 
 pub returns : goal.returns
 returns c =
-    let s = c in
-    let d = s.requires.tables_2 in
+    let d = c.requires.tables_2 in
     let l = d.lawful in
-    let size = size_of s.args.size in
-    let received = s.args.received.now in
-    let marks = s.args.marks.now in
-    let sums = subst (λ (n : ℕ). SyndromesOf size s.args.check_words n (read_word size received marks) s.args.s.now) (sym l.same_length) d.are.sums in
-    let out : nearest size s.args.check_words s.args.limit received marks ≡ none
-    = answer-none size s.args.check_words s.args.limit received marks l.same_length l.readable
-    s.args.s.now c.propose.new.corrections c.propose.ensures d.are.sums
+    let size = size_of c.args.size in
+    let received = c.args.received.now in
+    let marks = c.args.marks.now in
+    let sums = subst (λ (n : ℕ). SyndromesOf size c.args.check_words n (read_word size received marks) c.args.s.now) (sym l.same_length) d.are.sums in
+    let out : nearest size c.args.check_words c.args.limit received marks ≡ none
+    = answer-none size c.args.check_words c.args.limit received marks l.same_length l.readable
+    c.args.s.now c.propose.new.corrections c.propose.ensures d.are.sums
     (c.is_near.ensures.refuses (read_word size received marks) sums c.if-is_near.false) in
     record { is-near = λ e. absurd (not-both (sym e)); is-far = λ _. (out, refl) }

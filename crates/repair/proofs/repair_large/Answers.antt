@@ -8,9 +8,9 @@ use Rattle.repair.proofs.repair_large.Goals as goal
 
 pub repair_in-requires : goal.repair_in-requires
 repair_in-requires c =
-    let s = c in record {
-      tables_1 = s.requires.fact_1;
-      tables_2 = s.requires.fact_2;
-      tables_3 = s.requires.fact_3;
-      work = work-zeros 4096 c.zeros_4096-u.ensures c.zeros_4096-p.ensures c.zeros_4096-q.ensures c.zeros_4096-corrections.ensures (let h : length s.args.received.now < 4096 = omega (arith, s.requires.fact_2.lawful.length-lt, most-words (size_of s.args.size)) in h);
+    record {
+      tables_1 = c.requires.fact_1;
+      tables_2 = c.requires.fact_2;
+      tables_3 = c.requires.fact_3;
+      work = work-zeros 4096 c.zeros_4096-u.ensures c.zeros_4096-p.ensures c.zeros_4096-q.ensures c.zeros_4096-corrections.ensures (let h : length c.args.received.now < 4096 = omega (arith, c.requires.fact_2.lawful.length-lt, most-words (size_of c.args.size)) in h);
     }

@@ -19,15 +19,14 @@ loop-i-init c = (search rules, search rules, filled_none _ _)
 
 pub loop-i-preserved : goal.loop-i-preserved
 loop-i-preserved c =
-    let l = c in
-    let a = l.args in
+    let a = c.args in
     let written = written_at a.received.now a.marks.now a.corrections.now in
-    let i = l.loop-i.i in
-    let old = l.loop-i.invariant.2 in
+    let i = c.loop-i.i in
+    let old = c.loop-i.invariant.2 in
     let h : i < length a.corrected.now = omega arith in
     let e : c.if-marks-i-eq1.corrected ≡ filled written (i + 1) a.corrected.now =
     elim c.if-marks-i-eq1.branch [ then-marks-i-eq1 w ↦ w.corrected-is ∙ filled-step written _ _ old (written-marked a.received.now a.marks.now a.corrections.now i w.if-marks-i-eq1.true) h | else-marks-i-eq1 w ↦ w.corrected-is ∙ filled-step written _ _ old (written_read a.received.now a.marks.now a.corrections.now i w.if-marks-i-eq1.false) h ] in
-    (search rules, ap length e ∙ length-filled written _ _ (omega arith) ∙ l.requires.fact_2, e)
+    (search rules, ap length e ∙ length-filled written _ _ (omega arith) ∙ c.requires.fact_2, e)
 
 pub returns : goal.returns
 returns c =

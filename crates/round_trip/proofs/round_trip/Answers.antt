@@ -8,14 +8,12 @@ use Rattle.round_trip.proofs.round_trip.Goals as goal
 
 pub returns : goal.returns
 returns c =
-    let t = c in
-    let k = t in
-    let a = k.args in
-    let x = below_of 256 a.message.now (λ i h. omega (arith, k.type_inv.message i)) in
+    let a = c.args in
+    let x = below_of 256 a.message.now (λ i h. omega (arith, c.type_inv.message i)) in
     let p = a.position % 8 in
     let back = trip-reads-back a.message.now a.percent p a.changes.now a.read.now x in
     let whole = trip-unchanged a.message.now a.percent p x (omega arith) a.changes.now a.read.now in
-    let e = t.trip_in.ensures in record {
+    let e = c.trip_in.ensures in record {
       value = e.value;
       read_after = e.read_after;
       reads_back = λ s room. (e.value ∙ (back s room).0, e.read_after ∙ (back s room).1);

@@ -7,8 +7,7 @@ use Rattle.correction.proofs.accept.all_zero.Goals as goal
 
 pub returns-then-words-j-ne0 : goal.returns-then-words-j-ne0
 returns-then-words-j-ne0 c =
-    let l = c in
-    sym (all_but l.args.count _ l.loop-j.j c.loop-j-test.true (ne_eqb _ _ c.if-words-j-ne0.true))
+    sym (all_but c.args.count _ c.loop-j.j c.loop-j-test.true (ne_eqb _ _ c.if-words-j-ne0.true))
 
 pub loop-j-preserved : goal.loop-j-preserved
 loop-j-preserved c = (search rules, below_more _ _ c.loop-j.invariant.1 c.if-words-j-ne0.false)

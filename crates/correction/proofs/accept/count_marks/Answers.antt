@@ -11,15 +11,13 @@ loop-i-init c = (search rules, sym (count_none _))
 
 pub overflow_add-e : goal.overflow_add-e
 overflow_add-e c =
-    let l = c in
-    omega (arith, count_most l.loop-i.i (marked l.args.marks.now))
+    omega (arith, count_most c.loop-i.i (marked c.args.marks.now))
 
 pub loop-i-preserved : goal.loop-i-preserved
 loop-i-preserved c =
-    let l = c in
-    let test = marked l.args.marks.now in (
+    let test = marked c.args.marks.now in (
       search rules,
-      elim c.if-marks-i-eq1.branch [ then-marks-i-eq1 w ↦ w.e-is ∙ count_yes l.loop-i.i test l.loop-i.invariant.1 (eq-eqb _ _ w.if-marks-i-eq1.true) | else-marks-i-eq1 w ↦ w.e-is ∙ count_no l.loop-i.i test l.loop-i.invariant.1 (ne_eqb _ _ w.if-marks-i-eq1.false) ],
+      elim c.if-marks-i-eq1.branch [ then-marks-i-eq1 w ↦ w.e-is ∙ count_yes c.loop-i.i test c.loop-i.invariant.1 (eq-eqb _ _ w.if-marks-i-eq1.true) | else-marks-i-eq1 w ↦ w.e-is ∙ count_no c.loop-i.i test c.loop-i.invariant.1 (ne_eqb _ _ w.if-marks-i-eq1.false) ],
     )
 
 pub returns : goal.returns

@@ -11,26 +11,24 @@ loop-i-init c = (search rules, sym (count_none _))
 
 pub overflow_add-r : goal.overflow_add-r
 overflow_add-r c =
-    let l = c in
-    omega (arith, count_most l.loop-i.i (wrong l.args.corrections.now l.args.marks.now))
+    omega (arith, count_most c.loop-i.i (wrong c.args.corrections.now c.args.marks.now))
 
 pub loop-i-preserved : goal.loop-i-preserved
 loop-i-preserved c =
-    let l = c in
-    let args = l.args in
+    let args = c.args in
     let test = wrong args.corrections.now args.marks.now in (
       search rules,
       elim c.if-marks-i-ne1.branch [
         | then-marks-i-ne1+then-corrections-i-ne0 w ↦
             w.r-is
-            ∙ count_yes l.loop-i.i test l.loop-i.invariant.1 (ap₂ neither (ne_eqb _ _ w.if-marks-i-ne1.true) (ne_eqb _ _ w.if-corrections-i-ne0.true))
+            ∙ count_yes c.loop-i.i test c.loop-i.invariant.1 (ap₂ neither (ne_eqb _ _ w.if-marks-i-ne1.true) (ne_eqb _ _ w.if-corrections-i-ne0.true))
         | then-marks-i-ne1+else-corrections-i-ne0 w ↦
             w.r-is
-            ∙ count_no l.loop-i.i test l.loop-i.invariant.1 (ap₂ neither (ne_eqb _ _ w.if-marks-i-ne1.true) (eq-eqb _ _ w.if-corrections-i-ne0.false))
+            ∙ count_no c.loop-i.i test c.loop-i.invariant.1 (ap₂ neither (ne_eqb _ _ w.if-marks-i-ne1.true) (eq-eqb _ _ w.if-corrections-i-ne0.false))
         | else-marks-i-ne1 w ↦
             w.r-is
-            ∙ count_no l.loop-i.i test l.loop-i.invariant.1
-            (ap (λ a. neither a (eqb (get_or args.corrections.now l.loop-i.i 0) 0)) (eq-eqb _ _ w.if-marks-i-ne1.false))
+            ∙ count_no c.loop-i.i test c.loop-i.invariant.1
+            (ap (λ a. neither a (eqb (get_or args.corrections.now c.loop-i.i 0) 0)) (eq-eqb _ _ w.if-marks-i-ne1.false))
       ],
     )
 

@@ -6,24 +6,23 @@ use Rattle.correction.proofs.accept.settle.Goals as goal
 
 pub exponent-start-requires : goal.exponent-start-requires
 exponent-start-requires c =
-    let s = c in record {
-      fact_1 = s.requires.tables_1;
-      fact_2 = s.requires.tables_2;
-      fact_3 = s.requires.k_bound_3;
-      fact_4 = s.requires.k_bound_1;
+    record {
+      fact_1 = c.requires.tables_1;
+      fact_2 = c.requires.tables_2;
+      fact_3 = c.requires.k_bound_3;
+      fact_4 = c.requires.k_bound_1;
     }
 
 pub add_powers-requires : goal.add_powers-requires
 add_powers-requires c =
-    let s = c in record {
-      tables_1 = s.requires.tables_1;
+    record {
+      tables_1 = c.requires.tables_1;
       tables_2 = c.exponent-start.ensures.fact_1;
-      tables_3 = s.requires.k_bound_1;
-      words_1 = s.requires.tables_3;
-      words_2 = s.requires.k_bound_2;
+      tables_3 = c.requires.k_bound_1;
+      words_1 = c.requires.tables_3;
+      words_2 = c.requires.k_bound_2;
     }
 
 pub returns : goal.returns
 returns c =
-    let s = c in
-    settled-by (size_of s.args.size) s.args.correction s.args.k s.args.count _ _ _ s.requires.tables_2 c.exponent-start.ensures.fact_2 c.add_powers.ensures
+    settled-by (size_of c.args.size) c.args.correction c.args.k c.args.count _ _ _ c.requires.tables_2 c.exponent-start.ensures.fact_2 c.add_powers.ensures

@@ -7,14 +7,12 @@ use Rattle.correction.proofs.erasures.erase.Goals.{else-marks-i-eq1, then-marks-
 
 pub loop-i-init : goal.loop-i-init
 loop-i-init c =
-    let s = c in
-    (search rules, refl, taken_none s.requires.tables_2 s.requires.marks_len_bound_3)
+    (search rules, refl, taken_none c.requires.tables_2 c.requires.marks_len_bound_3)
 
 pub take_out-requires : goal.take_out-requires
 take_out-requires c =
-    let s = c in
     let l = c.loop-i in record {
-      tables_1 = s.requires.tables_1;
+      tables_1 = c.requires.tables_1;
       tables_2 = l.invariant.2.words;
       k_bound_1 = omega arith;
       k_bound_2 = omega arith;
@@ -34,6 +32,5 @@ loop-i-preserved c =
 
 pub returns : goal.returns
 returns c =
-    let s = c in
-    let all : c.loop-i.i ≡ length s.args.marks.now = omega arith in
+    let all : c.loop-i.i ≡ length c.args.marks.now = omega arith in
     taken-all (rw all at c.loop-i.invariant.2)

@@ -12,25 +12,22 @@ loop-j-init c = (search rules, search rules, filled_none _ _)
 
 pub times_power-requires : goal.times_power-requires
 times_power-requires c =
-    let s = c in
     let l = c.loop-j in record {
-      fact_1 = s.requires.tables_1;
-      fact_2 = rw (not-yet-filled _ l.j l.j s.args.u.now l.invariant.2 (le_refl l.j)) (s.requires.tables_2 l.j);
-      fact_3 = s.requires.k_bound_1;
+      fact_1 = c.requires.tables_1;
+      fact_2 = rw (not-yet-filled _ l.j l.j c.args.u.now l.invariant.2 (le_refl l.j)) (c.requires.tables_2 l.j);
+      fact_3 = c.requires.k_bound_1;
     }
 
 pub loop-j-preserved : goal.loop-j-preserved
 loop-j-preserved c =
-    let s = c in
     let l = c.loop-j in
-    let h : l.j < length s.args.u.now = omega arith in (
+    let h : l.j < length c.args.u.now = omega arith in (
       search rules,
       simp length-set (search rules),
-      taking-out-next (size_of s.args.size) s.args.k l.j s.args.u.now l.invariant.2 c.times_power.ensures h,
+      taking-out-next (size_of c.args.size) c.args.k l.j c.args.u.now l.invariant.2 c.times_power.ensures h,
     )
 
 pub returns : goal.returns
 returns c =
-    let s = c in
-    let all : c.loop-j.j ≡ s.args.count = omega arith in
-    c.loop-j.invariant.2 ∙ ap (λ n. filled (taking_out (size_of s.args.size) s.args.k s.args.u.now) n s.args.u.now) all
+    let all : c.loop-j.j ≡ c.args.count = omega arith in
+    c.loop-j.invariant.2 ∙ ap (λ n. filled (taking_out (size_of c.args.size) c.args.k c.args.u.now) n c.args.u.now) all

@@ -12,19 +12,17 @@ loop-j-init c = (search rules, let a = c.args in dot-none (size_of a.size) a.p.n
 
 pub product-sum-requires : goal.product-sum-requires
 product-sum-requires c =
-    let s = c in
     let j = c.loop-j.j in record {
-      fact_1 = s.requires.tables_1;
-      fact_2 = s.requires.tables_2 j;
-      fact_3 = s.requires.tables_3 (s.args.at + j);
+      fact_1 = c.requires.tables_1;
+      fact_2 = c.requires.tables_2 j;
+      fact_3 = c.requires.tables_3 (c.args.at + j);
     }
 
 pub loop-j-preserved : goal.loop-j-preserved
 loop-j-preserved c =
-    let s = c in
     let l = c.loop-j in (
       search rules,
-      dot-more (size_of s.args.size) s.args.p.now s.args.u.now s.args.at l.j s.requires.tables_2 s.requires.tables_3 l.invariant.1 c.product-sum.ensures,
+      dot-more (size_of c.args.size) c.args.p.now c.args.u.now c.args.at l.j c.requires.tables_2 c.requires.tables_3 l.invariant.1 c.product-sum.ensures,
     )
 
 pub returns : goal.returns

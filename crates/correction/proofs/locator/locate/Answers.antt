@@ -6,23 +6,21 @@ use Rattle.correction.proofs.Turn.{started, finished}
 use Rattle.correction.proofs.locator.locate.Goals as goal
 
 pub loop-state-init : goal.loop-state-init
-loop-state-init c =
-    let s = c in (
-      refl,
-      (
-        refl,
-        started (size_of s.args.size) s.args.p.now s.args.q.now (omega arith) s.requires.t_in_bounds_3 s.requires.t_in_bounds_4,
-      ),
-    )
+loop-state-init c = (
+  refl,
+  (
+    refl,
+    started (size_of c.args.size) c.args.p.now c.args.q.now (omega arith) c.requires.t_in_bounds_3 c.requires.t_in_bounds_4,
+  ),
+)
 
 pub step-state-requires : goal.step-state-requires
 step-state-requires c =
-    let s = c in
     let l = c.loop-state in record {
-      tables_1 = s.requires.tables_1;
-      tables_2 = s.requires.tables_2;
-      tables_3 = s.requires.tables_3;
-      t_in_bounds_1 = omega (arith, l.invariant.0 ∙ length-set s.args.p.now 0 1);
+      tables_1 = c.requires.tables_1;
+      tables_2 = c.requires.tables_2;
+      tables_3 = c.requires.tables_3;
+      t_in_bounds_1 = omega (arith, l.invariant.0 ∙ length-set c.args.p.now 0 1);
       t_in_bounds_2 = omega arith;
       t_in_bounds_3 = omega arith;
       locating = l.invariant.1.1;
@@ -36,8 +34,7 @@ loop-state-preserved c = (search rules, (search rules, c.step-state.ensures.loca
 
 pub returns : goal.returns
 returns c =
-    let s = c in
     let all = c.loop-state.invariant.1.1 in record {
-      fact_1 = finished (size_of s.args.size) all (omega arith);
+      fact_1 = finished (size_of c.args.size) all (omega arith);
       fact_2 = all.q-words;
     }

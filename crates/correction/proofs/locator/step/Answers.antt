@@ -18,18 +18,17 @@ dot-d-requires c =
 
 pub returns-then-d-eq0 : goal.returns-then-d-eq0
 returns-then-d-eq0 c =
-    let s = c in record {
-      locating_2 = turn-annihilates (size_of s.args.size) s.requires.locating c.dot-d.ensures c.if-d-eq0.true;
+    record {
+      locating_2 = turn-annihilates (size_of c.args.size) c.requires.locating c.dot-d.ensures c.if-d-eq0.true;
       place_value = omega arith;
     }
 
 pub keep_length-requires : goal.keep_length-requires
 keep_length-requires c =
-    let s = c in
-    let v = s.requires.locating in record {
-      tables_1 = s.requires.tables_1;
+    let v = c.requires.locating in record {
+      tables_1 = c.requires.tables_1;
       tables_2 = v.scale-word;
-      tables_3 = discrepancy-word (size_of s.args.size) v c.dot-d.ensures;
+      tables_3 = discrepancy-word (size_of c.args.size) v c.dot-d.ensures;
       words_1 = v.p-words;
       words_2 = v.q-words;
       words_3 = omega arith;
@@ -38,19 +37,18 @@ keep_length-requires c =
 
 pub returns-then-place-length : goal.returns-then-place-length
 returns-then-place-length c =
-    let s = c in record {
-      locating_2 = turn-kept (size_of s.args.size) s.requires.locating c.dot-d.ensures
+    record {
+      locating_2 = turn-kept (size_of c.args.size) c.requires.locating c.dot-d.ensures
           _ (omega arith) c.keep_length.ensures;
       place_value = omega arith;
     }
 
 pub lengthen-requires : goal.lengthen-requires
 lengthen-requires c =
-    let s = c in
-    let v = s.requires.locating in record {
-      tables_1 = s.requires.tables_1;
+    let v = c.requires.locating in record {
+      tables_1 = c.requires.tables_1;
       tables_2 = v.scale-word;
-      tables_3 = discrepancy-word (size_of s.args.size) v c.dot-d.ensures;
+      tables_3 = discrepancy-word (size_of c.args.size) v c.dot-d.ensures;
       tables_4 = omega arith;
       words_1 = v.p-words;
       words_2 = v.q-words;
@@ -60,9 +58,9 @@ lengthen-requires c =
 
 pub returns : goal.returns
 returns c =
-    let s = c in record {
-      locating_2 = turn-lengthened (size_of s.args.size) s.requires.locating
+    record {
+      locating_2 = turn-lengthened (size_of c.args.size) c.requires.locating
           c.dot-d.ensures
-          _ (omega arith) s.requires.t_in_bounds_3 c.if-d-eq0.false c.lengthen.ensures;
+          _ (omega arith) c.requires.t_in_bounds_3 c.if-d-eq0.false c.lengthen.ensures;
       place_value = omega arith;
     }

@@ -13,65 +13,61 @@ loop-j-init c =
 
 pub times_power-requires : goal.times_power-requires
 times_power-requires c =
-    let start = c in record {
-      fact_1 = start.requires.tables_1;
+    record {
+      fact_1 = c.requires.tables_1;
       fact_2 = c.loop-j.invariant.quotient-word;
-      fact_3 = start.requires.m_in_bounds_3;
+      fact_3 = c.requires.m_in_bounds_3;
     }
 
 pub product-numerator-requires : goal.product-numerator-requires
 product-numerator-requires c =
-    let start = c in
     let l = c.loop-j in record {
-      fact_1 = start.requires.tables_1;
-      fact_2 = (next-quotient (size_of start.args.size) start.args.g.now start.args.syndromes.now start.args.m start.args.k
-          start.requires.tables_2 start.requires.tables_3 l.invariant (search rules) c.times_power.ensures).0;
-      fact_3 = start.requires.tables_3 (l.j - 1);
+      fact_1 = c.requires.tables_1;
+      fact_2 = (next-quotient (size_of c.args.size) c.args.g.now c.args.syndromes.now c.args.m c.args.k
+          c.requires.tables_2 c.requires.tables_3 l.invariant (search rules) c.times_power.ensures).0;
+      fact_3 = c.requires.tables_3 (l.j - 1);
     }
 
 pub times_power-requires-in-loop-j : goal.times_power-requires-in-loop-j
 times_power-requires-in-loop-j c =
-    let start = c in record {
-      fact_1 = start.requires.tables_1;
+    record {
+      fact_1 = c.requires.tables_1;
       fact_2 = c.loop-j.invariant.slope-word;
-      fact_3 = start.requires.m_in_bounds_3;
+      fact_3 = c.requires.m_in_bounds_3;
     }
 
 pub loop-j-preserved : goal.loop-j-preserved
 loop-j-preserved c =
-    let start = c in
-    let a = start.args in
-    dividing-turn (size_of a.size) a.g.now a.syndromes.now a.m a.k start.requires.tables_2 start.requires.tables_3
+    let a = c.args in
+    dividing-turn (size_of a.size) a.g.now a.syndromes.now a.m a.k c.requires.tables_2 c.requires.tables_3
     c.loop-j.invariant (search rules) c.times_power.ensures c.product-numerator.ensures c.times_power-in-loop-j.ensures
 
 pub times_power-denominator-requires : goal.times_power-denominator-requires
 times_power-denominator-requires c =
-    let start = c in record {
-      fact_1 = start.requires.tables_1;
+    record {
+      fact_1 = c.requires.tables_1;
       fact_2 = c.loop-j.invariant.slope-word;
-      fact_3 = start.requires.m_in_bounds_3;
+      fact_3 = c.requires.m_in_bounds_3;
     }
 
 pub inverse-requires : goal.inverse-requires
 inverse-requires c =
-    let start = c in
     let l = c.loop-j in
-    let size = size_of start.args.size in record {
-      fact_1 = start.requires.tables_1;
-      fact_2 = subst (Word size) (sym c.times_power-denominator.ensures) (product-word size l.slope (power size start.args.k) l.invariant.slope-word);
+    let size = size_of c.args.size in record {
+      fact_1 = c.requires.tables_1;
+      fact_2 = subst (Word size) (sym c.times_power-denominator.ensures) (product-word size l.slope (power size c.args.k) l.invariant.slope-word);
     }
 
 pub product-requires : goal.product-requires
 product-requires c =
-    let start = c in
     let l = c.loop-j in
-    let size = size_of start.args.size in record {
-      fact_1 = start.requires.tables_1;
+    let size = size_of c.args.size in record {
+      fact_1 = c.requires.tables_1;
       fact_2 = l.invariant.numerator-word;
       fact_3 = subst (Word size) (sym c.inverse.ensures)
           (inverse-word size _
           (subst (Word size) (sym c.times_power-denominator.ensures)
-          (product-word size l.slope (power size start.args.k) l.invariant.slope-word)));
+          (product-word size l.slope (power size c.args.k) l.invariant.slope-word)));
     }
 
 pub returns : goal.returns

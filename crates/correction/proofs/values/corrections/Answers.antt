@@ -13,19 +13,18 @@ loop-i-init c =
 
 pub correction-requires : goal.correction-requires
 correction-requires c =
-    let start = c in record {
-      tables_1 = start.requires.tables_1;
-      tables_2 = start.requires.tables_2;
-      tables_3 = start.requires.tables_3;
+    record {
+      tables_1 = c.requires.tables_1;
+      tables_2 = c.requires.tables_2;
+      tables_3 = c.requires.tables_3;
       m_in_bounds_1 = search rules;
       m_in_bounds_2 = search rules;
-      m_in_bounds_3 = omega (arith, start.requires.m_in_bounds_4);
+      m_in_bounds_3 = omega (arith, c.requires.m_in_bounds_4);
     }
 
 pub loop-i-preserved : goal.loop-i-preserved
 loop-i-preserved c =
-    let start = c in
-    let a = start.args in
+    let a = c.args in
     let l = c.loop-i in
     let size = size_of a.size in
     elim c.if-places-i-eq1.branch [
@@ -37,13 +36,12 @@ loop-i-preserved c =
         search rules,
         rw w.places-is
             (correcting-skip size a.n a.m a.g.now a.syndromes.now a.places.now l.invariant.1
-            (start.requires.zero_from_2 l.i (search rules)) w.if-places-i-eq1.false),
+            (c.requires.zero_from_2 l.i (search rules)) w.if-places-i-eq1.false),
       )
     ]
 
 pub returns : goal.returns
 returns c =
-    let start = c in
-    let a = start.args in
+    let a = c.args in
     correcting-all (size_of a.size) a.n a.m a.g.now a.syndromes.now a.places.now c.loop-i.invariant.1 (search rules)
-    start.requires.zero_from_1
+    c.requires.zero_from_1

@@ -8,24 +8,22 @@ use Rattle.correction.proofs.values.gather.Goals.{else-is_taken, then-is_taken}
 
 pub loop-i-init : goal.loop-i-init
 loop-i-init c =
-    let start = c in
-    let a = start.args in (
+    let a = c.args in (
       search rules,
       refl,
       refl,
-      gathering-none (size_of a.size) a.degree a.p.now a.marks.now a.g.now start.requires.marks_in_bounds_2_2
-          start.requires.marks_in_bounds_2_3 (search rules),
+      gathering-none (size_of a.size) a.degree a.p.now a.marks.now a.g.now c.requires.marks_in_bounds_2_2
+          c.requires.marks_in_bounds_2_3 (search rules),
     )
 
 pub times_root-requires : goal.times_root-requires
 times_root-requires c =
-    let start = c in
-    let a = start.args in
+    let a = c.args in
     let l = c.loop-i in
     let few = degree-le (size_of a.size) a.degree a.p.now a.marks.now l.invariant.3 in record {
-      tables_1 = start.requires.tables_1;
+      tables_1 = c.requires.tables_1;
       tables_2 = l.invariant.3.words;
-      k_bound_1 = omega (arith, start.requires.marks_in_bounds_2);
+      k_bound_1 = omega (arith, c.requires.marks_in_bounds_2);
       k_bound_2 = omega (arith, l.invariant.2, length-set a.g.now 0 1);
     }
 

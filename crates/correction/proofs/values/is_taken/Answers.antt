@@ -19,16 +19,15 @@ returns-then-marks-i-eq1 c =
 
 pub returns : goal.returns
 returns c =
-    let s = c in
-    let a = s.args in
+    let a = c.args in
     let size = size_of a.size in
     let P = entry size a.p.now in
     let n = length a.marks.now in
     let k = n - 1 - a.i in
     let k_lt : k < n = omega arith in
-    sym (zero_test size (s.requires.fact_1.words k))
+    sym (zero_test size (c.requires.fact_1.words k))
     ∙ ap (is_zero (word_field size))
-    (s.requires.fact_1.values k k_lt
+    (c.requires.fact_1.values k k_lt
     ∙ ap (λ (m : ℕ). eval (word_field size) m P (place size n a.i)) (add-one a.degree))
     ∙ sym
     (ap (λ (t : Bool). t || is_zero (word_field size) (eval (word_field size) (suc a.degree) P (place size n a.i)))

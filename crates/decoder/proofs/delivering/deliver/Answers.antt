@@ -61,8 +61,7 @@ overflow_cast-result c =
 
 pub shape_of-requires : goal.shape_of-requires
 shape_of-requires c =
-    let a = c in
-    most-layers a.args.layout.full a.args.layout.layers a.requires.shaped_1
+    most-layers c.args.layout.full c.args.layout.layers c.requires.shaped_1
 
 pub returns : goal.returns
 returns c =

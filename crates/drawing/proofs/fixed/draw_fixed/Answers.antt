@@ -19,9 +19,9 @@ loop-row-init c =
 
 pub draw_row-requires : goal.draw_row-requires
 draw_row-requires c =
-    let s = c in record {
-      fact_1 = s.requires.fact_1;
-      fact_2 = (omega arith, omega (arith, s.requires.fact_2));
+    record {
+      fact_1 = c.requires.fact_1;
+      fact_2 = (omega arith, omega (arith, c.requires.fact_2));
     }
 
 pub loop-row-preserved : goal.loop-row-preserved

@@ -21,16 +21,14 @@ side_of-n-requires c = most-layers _ _ c.requires.fact_1
 
 pub overflow_mul-start : goal.overflow_mul-start
 overflow_mul-start c =
-    let s = c in
-    omega (arith, in_area s.args.full s.args.layers c.side_of-n.ensures s.args.row 0 (omega arith) (omega arith) s.requires.fact_2.1)
+    omega (arith, in_area c.args.full c.args.layers c.side_of-n.ensures c.args.row 0 (omega arith) (omega arith) c.requires.fact_2.1)
 
 pub loop-c-init : goal.loop-c-init
 loop-c-init c = (search rules, refl, writes-none _ _ _)
 
 pub fixed_at-requires : goal.fixed_at-requires
 fixed_at-requires c =
-    let s = c in
-    let most = side-most s.args.full s.args.layers s.requires.fact_1 in
+    let most = side-most c.args.full c.args.layers c.requires.fact_1 in
     (omega arith, omega arith)
 
 pub overflow_add-grid : goal.overflow_add-grid

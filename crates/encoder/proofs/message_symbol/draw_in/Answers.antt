@@ -27,7 +27,7 @@ mode-length : (c : After-mode_run_of-run)
 mode-length c = length-take-le c.mode_run_of-run.result (start c).args.mode_words.now (mode-room c)
 
 pub words_of-n-requires : goal.words_of-n-requires
-words_of-n-requires c = let a = c in most-layers a.args.full a.args.layers a.requires.fitting_1.shaped
+words_of-n-requires c = most-layers c.args.full c.args.layers c.requires.fitting_1.shaped
 
 pub slice_bounds-draw_with-end : goal.slice_bounds-draw_with-end
 slice_bounds-draw_with-end c = block_room c

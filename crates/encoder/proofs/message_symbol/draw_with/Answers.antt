@@ -9,11 +9,7 @@ use Rattle.encoder.proofs.message_symbol.draw_with.Goals as goal
 pub returns : goal.returns
 unfolding drawn_message
 returns c =
-    let drew = c in
-    let mode = drew in
-    let filled = mode in
-    let a = filled in
-    drew.draw.ensures
-    ∙ ap₂ (λ ms ws. drawn a.args.full a.args.layers ms ws a.args.grid.now)
-    (mode.fill_mode_words.ensures ∙ ap (mode_codewords a.args.full a.args.layers) a.requires.fitting_1.count)
-    filled.fill_block.ensures
+    c.draw.ensures
+    ∙ ap₂ (λ ms ws. drawn c.args.full c.args.layers ms ws c.args.grid.now)
+    (c.fill_mode_words.ensures ∙ ap (mode_codewords c.args.full c.args.layers) c.requires.fitting_1.count)
+    c.fill_block.ensures

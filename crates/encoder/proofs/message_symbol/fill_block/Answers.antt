@@ -16,15 +16,13 @@ use Rattle.encoder.proofs.message_symbol.fill_block.Goals.{After-word_size_of-si
 
 pub write_words-requires : goal.write_words-requires
 write_words-requires c =
-    let a = c in
-    let r = word-size-range a.args.layers in
+    let r = word-size-range c.args.layers in
     let e = c.word_size_of-size.ensures in
-    (omega (arith, e, r), omega (arith, e, r), a.requires.fact_1.short)
+    (omega (arith, e, r), omega (arith, e, r), c.requires.fact_1.short)
 
 pub overflow_cast-size : goal.overflow_cast-size
 overflow_cast-size c =
-    let s = c in
-    omega (arith, s.word_size_of-size.ensures, word-size-range s.args.layers)
+    omega (arith, c.word_size_of-size.ensures, word-size-range c.args.layers)
 
 abbrev sized : After-write_words → After-word_size_of-size
 sized c = (goal.at.After-write_words c).After-word_size_of-size

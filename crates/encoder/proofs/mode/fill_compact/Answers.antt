@@ -22,11 +22,11 @@ front-stored a = let v = value a in stored-two a.args.words.now (v / 16 % 16) (v
 
 pub fill_check_words-requires : goal.fill_check_words-requires
 fill_check_words-requires c =
-    let a = c in record {
+    record {
       size_value_1 = refl;
-      size_value_2 = simp length-set (omega (arith, a.requires.4));
-      size_value_3 = simp length-set (omega (arith, a.requires.4));
-      words = two-words a.args.words.now _ _ (omega (arith, a.requires.4));
+      size_value_2 = simp length-set (omega (arith, c.requires.4));
+      size_value_3 = simp length-set (omega (arith, c.requires.4));
+      words = two-words c.args.words.now _ _ (omega (arith, c.requires.4));
     }
 
 abbrev start : After-slice_known-2-1 → Start

@@ -9,13 +9,12 @@ use Rattle.encoder.proofs.mode.fill_mode_words.Goals as goal
 pub fill_full-requires : goal.fill_full-requires
 unfolding most_words most_layers mode_run
 fill_full-requires c =
-    let a = c in
     let e = c.if-full.true in (
-      a.requires.fact_1.some,
-      subst (λ (f : Bool). a.args.layers ≤ most_layers f) e a.requires.fact_1.most,
-      a.requires.fact_2.0,
-      subst (λ (f : Bool). a.args.data_words ≤ most_words f) e a.requires.fact_2.1,
-      a.requires.fact_2.2 ∙ ap mode_run e,
+      c.requires.fact_1.some,
+      subst (λ (f : Bool). c.args.layers ≤ most_layers f) e c.requires.fact_1.most,
+      c.requires.fact_2.0,
+      subst (λ (f : Bool). c.args.data_words ≤ most_words f) e c.requires.fact_2.1,
+      c.requires.fact_2.2 ∙ ap mode_run e,
     )
 
 pub returns-then-full : goal.returns-then-full
@@ -26,13 +25,12 @@ returns-then-full c =
 pub fill_compact-requires : goal.fill_compact-requires
 unfolding most_words most_layers mode_run
 fill_compact-requires c =
-    let a = c in
     let e = c.if-full.false in (
-      a.requires.fact_1.some,
-      subst (λ (f : Bool). a.args.layers ≤ most_layers f) e a.requires.fact_1.most,
-      a.requires.fact_2.0,
-      subst (λ (f : Bool). a.args.data_words ≤ most_words f) e a.requires.fact_2.1,
-      a.requires.fact_2.2 ∙ ap mode_run e,
+      c.requires.fact_1.some,
+      subst (λ (f : Bool). c.args.layers ≤ most_layers f) e c.requires.fact_1.most,
+      c.requires.fact_2.0,
+      subst (λ (f : Bool). c.args.data_words ≤ most_words f) e c.requires.fact_2.1,
+      c.requires.fact_2.2 ∙ ap mode_run e,
     )
 
 pub returns : goal.returns

@@ -6,5 +6,4 @@ use Rattle.encoder.proofs.planning.count_at.Goals as goal
 
 pub returns-then-size-before : goal.returns-then-size-before
 returns-then-size-before c =
-    let a = c in
-    (sym c.if-size-before.true, a.requires.fact_2 ∙ ap (λ b. words_needed b a.args.message.now) (sym c.if-size-before.true))
+    (sym c.if-size-before.true, c.requires.fact_2 ∙ ap (λ b. words_needed b c.args.message.now) (sym c.if-size-before.true))

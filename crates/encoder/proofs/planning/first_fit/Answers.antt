@@ -103,10 +103,9 @@ refused-requires c = tt
 
 pub returns : goal.returns
 returns c =
-    let l = c in
-    let a = l.args in
+    let a = c.args in
     let test = fits_listed a.message.now a.percent in
-    let i = l.loop-i.i in
+    let i = c.loop-i.i in
     c.refused.ensures
     ∙ ap (planned_for a.message.now)
-    (sym (first-none test i) ∙ ap (first_from test i) (let z : 0 ≡ 33 - i = omega arith in z) ∙ l.loop-i.invariant.2)
+    (sym (first-none test i) ∙ ap (first_from test i) (let z : 0 ≡ 33 - i = omega arith in z) ∙ c.loop-i.invariant.2)

@@ -9,9 +9,8 @@ use Rattle.encoder.proofs.planning.fits.Goals.{After-words_of-n}
 
 small : (c : After-words_of-n) → c.args.percent * c.words_of-n.result ≤ 316160
 small c =
-    let a = c in
-    check-most a.args.percent c.words_of-n.result a.requires.0
-    (omega (arith, c.words_of-n.ensures, words-most a.args.full a.args.layers a.requires.1))
+    check-most c.args.percent c.words_of-n.result c.requires.0
+    (omega (arith, c.words_of-n.ensures, words-most c.args.full c.args.layers c.requires.1))
 
 pub overflow_mul-check : goal.overflow_mul-check
 overflow_mul-check c = omega (arith, small c)

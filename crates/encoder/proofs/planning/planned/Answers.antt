@@ -6,16 +6,14 @@ use Rattle.encoder.proofs.planning.planned.Goals as goal
 
 pub overflow_cast-result-2 : goal.overflow_cast-result-2
 overflow_cast-result-2 c =
-    let a = c in
-    omega (arith, c.side_of.ensures, sides-most a.args.full a.args.layers a.requires.1)
+    omega (arith, c.side_of.ensures, sides-most c.args.full c.args.layers c.requires.1)
 
 pub overflow_cast-result-3 : goal.overflow_cast-result-3
-overflow_cast-result-3 c = let a = c in omega (arith, words-most a.args.full a.args.layers a.requires.1)
+overflow_cast-result-3 c = omega (arith, words-most c.args.full c.args.layers c.requires.1)
 
 pub overflow_cast-result-4 : goal.overflow_cast-result-4
 overflow_cast-result-4 c =
-    let a = c in
-    omega (arith, c.words_of.ensures, words-most a.args.full a.args.layers a.requires.1)
+    omega (arith, c.words_of.ensures, words-most c.args.full c.args.layers c.requires.1)
 
 pub returns : goal.returns
 returns c =

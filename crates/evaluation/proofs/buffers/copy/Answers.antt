@@ -9,12 +9,10 @@ loop-i-init c = (search rules, search rules, filled_none _ _)
 
 pub loop-i-preserved : goal.loop-i-preserved
 loop-i-preserved c =
-    let s = c in
-    let h : c.loop-i.i < length s.args.to.now = omega arith in
-    (search rules, simp length-set (search rules), filled-step (λ j. get_or s.args.from.now j 0) _ _ c.loop-i.invariant.2 refl h)
+    let h : c.loop-i.i < length c.args.to.now = omega arith in
+    (search rules, simp length-set (search rules), filled-step (λ j. get_or c.args.from.now j 0) _ _ c.loop-i.invariant.2 refl h)
 
 pub returns : goal.returns
 returns c =
-    let s = c in
-    let all : c.loop-i.i ≡ s.args.count = omega arith in
-    c.loop-i.invariant.2 ∙ ap (λ n. filled (λ j. get_or s.args.from.now j 0) n s.args.to.now) all
+    let all : c.loop-i.i ≡ c.args.count = omega arith in
+    c.loop-i.invariant.2 ∙ ap (λ n. filled (λ j. get_or c.args.from.now j 0) n c.args.to.now) all

@@ -10,83 +10,78 @@ use Rattle.evaluation.proofs.folded.folded_10.Goals as goal
 
 pub copy-requires : goal.copy-requires
 copy-requires c =
-    let s = c in
     let long : length c.zeros_1024-a.result ≡ 1024 = ap length c.zeros_1024-a.ensures ∙ length-replicate {A = ℕ} 1024 0 in record {
-      fact_1 = s.requires.fact_2.n-le;
-      fact_2 = omega (arith, s.requires.fact_2.n-lt, s.requires.fact_5);
+      fact_1 = c.requires.fact_2.n-le;
+      fact_2 = omega (arith, c.requires.fact_2.n-lt, c.requires.fact_5);
     }
 
 pub fold-requires : goal.fold-requires
 fold-requires c =
-    let s = c in
-    let size = s.requires.fact_5 in
+    let size = c.requires.fact_5 in
     let a = c.zeros_1024-a in
     let copy = c.copy in
-    let given = folded-given (size_of s.args.size) a.result (zeros-from 1024 a.ensures) copy.ensures s.requires.fact_2 1023 (sym size) in
+    let given = folded-given (size_of c.args.size) a.result (zeros-from 1024 a.ensures) copy.ensures c.requires.fact_2 1023 (sym size) in
     let a-long : length a.result ≡ 1024 = ap length a.ensures ∙ length-replicate {A = ℕ} 1024 0 in
     let b = c.zeros_1024-b in
     let b-long : length b.result ≡ 1024 = ap length b.ensures ∙ length-replicate {A = ℕ} 1024 0 in
-    let divided : Divided (size_of s.args.size) 1 11 93 = record { whole = sym size; m-pos = lit< tt; per_pos = lit< tt; part-pos = lit< tt } in record {
-      tables_1 = s.requires.fact_1;
+    let divided : Divided (size_of c.args.size) 1 11 93 = record { whole = sym size; m-pos = lit< tt; per_pos = lit< tt; part-pos = lit< tt } in record {
+      tables_1 = c.requires.fact_1;
       tables_2 = given.words;
-      tables_3 = zero-words (size_of s.args.size) b.result (zeros-from 1024 b.ensures);
+      tables_3 = zero-words (size_of c.args.size) b.result (zeros-from 1024 b.ensures);
       divided_1 = divided;
-      divided_2 = omega (arith, s.requires.fact_2.n-lt, size);
+      divided_2 = omega (arith, c.requires.fact_2.n-lt, size);
       divided_3 = omega (arith, size, copy.auto.to);
       divided_4 = omega (arith, size, copy.auto.to);
     }
 
 pub fold-requires-2 : goal.fold-requires-2
 fold-requires-2 c =
-    let s = c in
-    let size = s.requires.fact_5 in
+    let size = c.requires.fact_5 in
     let a = c.zeros_1024-a in
     let copy = c.copy in
-    let given = folded-given (size_of s.args.size) a.result (zeros-from 1024 a.ensures) copy.ensures s.requires.fact_2 1023 (sym size) in
+    let given = folded-given (size_of c.args.size) a.result (zeros-from 1024 a.ensures) copy.ensures c.requires.fact_2 1023 (sym size) in
     let once = c.fold.ensures _ given in
     let a-long : length a.result ≡ 1024 = ap length a.ensures ∙ length-replicate {A = ℕ} 1024 0 in
     let b = c.zeros_1024-b in
     let b-long : length b.result ≡ 1024 = ap length b.ensures ∙ length-replicate {A = ℕ} 1024 0 in
-    let divided : Divided (size_of s.args.size) 11 3 31 = record { whole = sym size; m-pos = lit< tt; per_pos = lit< tt; part-pos = lit< tt } in record {
-      tables_1 = s.requires.fact_1;
+    let divided : Divided (size_of c.args.size) 11 3 31 = record { whole = sym size; m-pos = lit< tt; per_pos = lit< tt; part-pos = lit< tt } in record {
+      tables_1 = c.requires.fact_1;
       tables_2 = once.words;
       tables_3 = given.words;
       divided_1 = divided;
-      divided_2 = omega (arith, s.requires.fact_2.n-lt, size);
+      divided_2 = omega (arith, c.requires.fact_2.n-lt, size);
       divided_3 = omega (arith, size, copy.auto.to, c.fold.auto.to);
       divided_4 = omega (arith, size, copy.auto.to, c.fold.auto.to);
     }
 
 pub finish-requires : goal.finish-requires
 finish-requires c =
-    let s = c in
-    let size = s.requires.fact_5 in
+    let size = c.requires.fact_5 in
     let a = c.zeros_1024-a in
     let copy = c.copy in
-    let given = folded-given (size_of s.args.size) a.result (zeros-from 1024 a.ensures) copy.ensures s.requires.fact_2 1023 (sym size) in
+    let given = folded-given (size_of c.args.size) a.result (zeros-from 1024 a.ensures) copy.ensures c.requires.fact_2 1023 (sym size) in
     let once = c.fold.ensures _ given in
     let twice = c.fold-2.ensures _ once in
     let a-long : length a.result ≡ 1024 = ap length a.ensures ∙ length-replicate {A = ℕ} 1024 0 in
     let b = c.zeros_1024-b in
     let b-long : length b.result ≡ 1024 = ap length b.ensures ∙ length-replicate {A = ℕ} 1024 0 in
-    let divided : Divided (size_of s.args.size) 11 3 31 = record { whole = sym size; m-pos = lit< tt; per_pos = lit< tt; part-pos = lit< tt } in record {
-      tables_1 = s.requires.fact_1;
+    let divided : Divided (size_of c.args.size) 11 3 31 = record { whole = sym size; m-pos = lit< tt; per_pos = lit< tt; part-pos = lit< tt } in record {
+      tables_1 = c.requires.fact_1;
       tables_2 = twice.words;
-      tables_3 = s.requires.fact_3;
-      tables_4 = s.requires.fact_4;
+      tables_3 = c.requires.fact_3;
+      tables_4 = c.requires.fact_4;
       divided_1 = divided;
       divided_2 = lit< tt;
-      divided_3 = omega (arith, s.requires.fact_2.n-lt, size);
+      divided_3 = omega (arith, c.requires.fact_2.n-lt, size);
       divided_4 = omega (arith, size, copy.auto.to, c.fold.auto.to, c.fold-2.auto.to);
     }
 
 pub returns : goal.returns
 returns c =
-    let s = c in
-    let size = s.requires.fact_5 in
+    let size = c.requires.fact_5 in
     let a = c.zeros_1024-a in
     let copy = c.copy in
-    let given = folded-given (size_of s.args.size) a.result (zeros-from 1024 a.ensures) copy.ensures s.requires.fact_2 1023 (sym size) in
+    let given = folded-given (size_of c.args.size) a.result (zeros-from 1024 a.ensures) copy.ensures c.requires.fact_2 1023 (sym size) in
     let once = c.fold.ensures _ given in
     let twice = c.fold-2.ensures _ once in
     c.finish.ensures _ twice

@@ -9,56 +9,48 @@ use Rattle.evaluation.proofs.folds.add_row.Goals as goal
 
 pub loop-j-init : goal.loop-j-init
 loop-j-init c =
-    let s = c in
-    (search rules, sym (ap (λ n. n % s.args.m) (add-zero s.args.points.first) ∙ mod-eq_of_lt (let h : s.args.points.first < s.args.m = omega (arith, s.requires.tables_2.first-le) in h)), search rules, filled_none _ _)
+    (search rules, sym (ap (λ n. n % c.args.m) (add-zero c.args.points.first) ∙ mod-eq_of_lt (let h : c.args.points.first < c.args.m = omega (arith, c.requires.tables_2.first-le) in h)), search rules, filled_none _ _)
 
 pub times_power-requires : goal.times_power-requires
 times_power-requires c =
-    let s = c in
     let l = c.loop-j in record {
-      fact_1 = s.requires.tables_1;
-      fact_2 = rw (not-yet-filled _ l.j l.j s.args.out.now l.invariant.3 (le_refl l.j)) (s.requires.tables_2.words l.j);
-      fact_3 = omega (arith, s.requires.tables_2.last-le);
+      fact_1 = c.requires.tables_1;
+      fact_2 = rw (not-yet-filled _ l.j l.j c.args.out.now l.invariant.3 (le_refl l.j)) (c.requires.tables_2.words l.j);
+      fact_3 = omega (arith, c.requires.tables_2.last-le);
     }
 
 pub overflow_mul-out : goal.overflow_mul-out
 overflow_mul-out c =
-    let start = c in
-    omega (arith, at-class _ start.args.m start.args.stride c.loop-j.invariant.1 (omega arith) start.requires.lt_m_2)
+    omega (arith, at-class _ c.args.m c.args.stride c.loop-j.invariant.1 (omega arith) c.requires.lt_m_2)
 
 pub overflow_add-out : goal.overflow_add-out
 overflow_add-out c =
-    let start = c in
-    omega (arith, at-class _ start.args.m start.args.stride c.loop-j.invariant.1 (omega arith) start.requires.lt_m_2)
+    omega (arith, at-class _ c.args.m c.args.stride c.loop-j.invariant.1 (omega arith) c.requires.lt_m_2)
 
 pub offset_bounds-from-class : goal.offset_bounds-from-class
 offset_bounds-from-class c =
-    let start = c in
-    omega (arith, at-class _ start.args.m start.args.stride c.loop-j.invariant.1 (omega arith) start.requires.lt_m_2)
+    omega (arith, at-class _ c.args.m c.args.stride c.loop-j.invariant.1 (omega arith) c.requires.lt_m_2)
 
 pub bounds-from-class : goal.bounds-from-class
 bounds-from-class c =
-    let start = c in
-    omega (arith, at-class _ start.args.m start.args.stride c.loop-j.invariant.1 (omega arith) start.requires.lt_m_2)
+    omega (arith, at-class _ c.args.m c.args.stride c.loop-j.invariant.1 (omega arith) c.requires.lt_m_2)
 
 pub next_class-class-requires : goal.next_class-class-requires
 next_class-class-requires c = class-lt _ (omega arith) c.loop-j.invariant.1
 
 pub loop-j-preserved : goal.loop-j-preserved
 loop-j-preserved c =
-    let s = c in
     let l = c.loop-j in
-    let h : l.j < length s.args.out.now = omega arith in
-    let further : s.args.points.first + l.j + 1 ≡ s.args.points.first + (l.j + 1) = omega arith in (
+    let h : l.j < length c.args.out.now = omega arith in
+    let further : c.args.points.first + l.j + 1 ≡ c.args.points.first + (l.j + 1) = omega arith in (
       search rules,
-      class-next s.args.m (s.args.points.first + l.j) l.invariant.1 c.next_class-class.ensures ∙ ap (λ n. n % s.args.m) further,
+      class-next c.args.m (c.args.points.first + l.j) l.invariant.1 c.next_class-class.ensures ∙ ap (λ n. n % c.args.m) further,
       simp length-set (search rules),
-      rowing-next (size_of s.args.size) s.args.points.first s.args.m s.args.stride s.args.r l.j s.args.from.now s.args.out.now l.invariant.3 l.invariant.1 c.times_power.ensures h,
+      rowing-next (size_of c.args.size) c.args.points.first c.args.m c.args.stride c.args.r l.j c.args.from.now c.args.out.now l.invariant.3 l.invariant.1 c.times_power.ensures h,
     )
 
 pub returns : goal.returns
 returns c =
-    let s = c in
     let l = c.loop-j in
-    let all : l.j ≡ s.args.points.count = omega arith in
+    let all : l.j ≡ c.args.points.count = omega arith in
     rw all at l.invariant.3

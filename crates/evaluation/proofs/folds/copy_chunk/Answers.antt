@@ -10,14 +10,12 @@ loop-r-init c = (search rules, placed-none _ c.args.into c.args.to.now)
 
 pub loop-r-preserved : goal.loop-r-preserved
 loop-r-preserved c =
-    let start = c in
     let loop = c.loop-r in
-    let h : start.args.into + loop.r < length start.args.to.now = omega arith in
+    let h : c.args.into + loop.r < length c.args.to.now = omega arith in
     (search rules, placed-next loop.invariant.1 refl h)
 
 pub returns : goal.returns
 returns c =
     let loop = c.loop-r in
-    let start = c in
-    let all : loop.r ≡ start.args.count = omega arith in
-    subst (λ n. Placed (λ (i : ℕ). get_or start.args.from.now (start.args.at + i) 0) start.args.into n start.args.to.now loop.to) all loop.invariant.1
+    let all : loop.r ≡ c.args.count = omega arith in
+    subst (λ n. Placed (λ (i : ℕ). get_or c.args.from.now (c.args.at + i) 0) c.args.into n c.args.to.now loop.to) all loop.invariant.1

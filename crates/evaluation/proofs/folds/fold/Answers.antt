@@ -9,62 +9,55 @@ use Rattle.evaluation.proofs.folds.fold.Goals as goal
 
 pub pieces-chunks-requires : goal.pieces-chunks-requires
 pieces-chunks-requires c =
-    let s = c in
-    let d = s.requires.divided_1 in record {
+    let d = c.requires.divided_1 in record {
       fact_1 = d.part-pos;
       fact_2 = d.per_pos;
-      fact_3 = s.requires.divided_2;
+      fact_3 = c.requires.divided_2;
     }
 
 pub overflow_mul-stride : goal.overflow_mul-stride
 overflow_mul-stride c =
-    let s = c in
-    let d = s.requires.divided_1 in
+    let d = c.requires.divided_1 in
     let room = fold-room d c.pieces-chunks.ensures.few d.m-pos (classes-pos d) in
-    omega (arith, most-words (size_of s.args.size))
+    omega (arith, most-words (size_of c.args.size))
 
 pub overflow_mul-classes : goal.overflow_mul-classes
 overflow_mul-classes c =
-    let s = c in
-    let d = s.requires.divided_1 in
+    let d = c.requires.divided_1 in
     let room = fold-room d c.pieces-chunks.ensures.few d.m-pos (classes-pos d) in
-    omega (arith, most-words (size_of s.args.size))
+    omega (arith, most-words (size_of c.args.size))
 
 pub loop-c-init : goal.loop-c-init
 loop-c-init c =
-    let s = c in
-    let f = s.args.folding in (
+    let f = c.args.folding in (
       search rules,
-      sym (mod-eq_of_lt s.requires.divided_1.m-pos),
+      sym (mod-eq_of_lt c.requires.divided_1.m-pos),
       refl,
-      folded-none (size_of s.args.size) f.classes f.per f.part _ s.args.from.now s.requires.tables_3,
+      folded-none (size_of c.args.size) f.classes f.per f.part _ c.args.from.now c.requires.tables_3,
     )
 
 pub overflow_mul-class : goal.overflow_mul-class
 overflow_mul-class c =
-    let s = c in
     let l = c.loop-c in
-    let d = s.requires.divided_1 in
+    let d = c.requires.divided_1 in
     let room = fold-room d c.pieces-chunks.ensures.few (class-lt l.c d.m-pos l.invariant.1) c.loop-c-test.true in
-    omega (arith, most-words (size_of s.args.size))
+    omega (arith, most-words (size_of c.args.size))
 
 pub overflow_mul-c : goal.overflow_mul-c
 overflow_mul-c c =
-    let s = c in
     let l = c.loop-c in
-    let d = s.requires.divided_1 in
+    let d = c.requires.divided_1 in
     let room = fold-room d c.pieces-chunks.ensures.few (class-lt l.c d.m-pos l.invariant.1) c.loop-c-test.true in
-    omega (arith, most-words (size_of s.args.size))
+    omega (arith, most-words (size_of c.args.size))
 
 pub fold_class-requires : goal.fold_class-requires
 fold_class-requires c =
-    let s = c in
     let l = c.loop-c in
-    let d = s.requires.divided_1 in
+    let d = c.requires.divided_1 in
     let pieces = c.pieces-chunks in
     let room = fold-room d pieces.ensures.few (class-lt l.c d.m-pos l.invariant.1) c.loop-c-test.true in record {
-      tables_1 = s.requires.tables_1;
-      tables_2 = s.requires.tables_2;
+      tables_1 = c.requires.tables_1;
+      tables_2 = c.requires.tables_2;
       tables_3 = l.invariant.3.words;
       into_bound_1 = omega arith;
       into_bound_2 = pieces.ensures.some;
@@ -75,34 +68,30 @@ fold_class-requires c =
 pub next_class-class-requires : goal.next_class-class-requires
 next_class-class-requires c =
     let l = c.loop-c in
-    let s = c in
-    class-lt l.c s.requires.divided_1.m-pos l.invariant.1
+    class-lt l.c c.requires.divided_1.m-pos l.invariant.1
 
 pub overflow_add-c : goal.overflow_add-c
 overflow_add-c c =
-    let s = c in
     let l = c.loop-c in
-    let d = s.requires.divided_1 in
+    let d = c.requires.divided_1 in
     let room = fold-room d c.pieces-chunks.ensures.few (class-lt l.c d.m-pos l.invariant.1) c.loop-c-test.true in
-    omega (arith, most-words (size_of s.args.size))
+    omega (arith, most-words (size_of c.args.size))
 
 pub loop-c-preserved : goal.loop-c-preserved
 loop-c-preserved c =
-    let s = c in
     let l = c.loop-c in
-    let f = s.args.folding in
+    let f = c.args.folding in
     let fold-class = c.fold_class in (
       search rules,
       class-next f.classes l.c l.invariant.1 c.next_class-class.ensures,
       fold-class.ensures.size ∙ l.invariant.2,
-      folded-next (size_of s.args.size) f.classes f.per f.part _ s.args.from.now l.invariant.3 l.invariant.1 fold-class.ensures,
+      folded-next (size_of c.args.size) f.classes f.per f.part _ c.args.from.now l.invariant.3 l.invariant.1 fold-class.ensures,
     )
 
 pub returns : goal.returns
 returns c =
-    let s = c in
     let l = c.loop-c in
-    let f = s.args.folding in
+    let f = c.args.folding in
     let all : l.c ≡ f.classes * f.per = omega arith in
-    folded-all (size_of s.args.size) f.classes f.per f.part _ s.args.from.now s.args.n s.requires.divided_1
+    folded-all (size_of c.args.size) f.classes f.per f.part _ c.args.from.now c.args.n c.requires.divided_1
     c.pieces-chunks.ensures (rw all at l.invariant.3)

@@ -6,10 +6,8 @@ use Rattle.evaluation.proofs.folds.next_class.Goals as goal
 
 pub returns-then-next-m : goal.returns-then-next-m
 returns-then-next-m c =
-    let start = c in
-    sym (ap (λ n. n % start.args.m) c.if-next-m.true ∙ mod_self start.args.m)
+    sym (ap (λ n. n % c.args.m) c.if-next-m.true ∙ mod_self c.args.m)
 
 pub returns : goal.returns
 returns c =
-    let start = c in
-    let l : start.args.class + 1 < start.args.m = omega (arith, c.if-next-m.false) in sym (mod-eq_of_lt l)
+    let l : c.args.class + 1 < c.args.m = omega (arith, c.if-next-m.false) in sym (mod-eq_of_lt l)

@@ -6,15 +6,13 @@ use Rattle.evaluation.proofs.folds.pieces.Goals as goal
 
 pub overflow_add-taken : goal.overflow_add-taken
 overflow_add-taken c =
-    let start = c in
-    omega (arith, div-le_self start.args.n start.args.part)
+    omega (arith, div-le_self c.args.n c.args.part)
 
 pub returns-then-taken-most : goal.returns-then-taken-most
 returns-then-taken-most c =
-    let start = c in
-    let n = start.args.n in
-    let part = start.args.part in
-    let past : n < n / part * part + part = lt-div-mul-add start.requires.fact_1 in
+    let n = c.args.n in
+    let part = c.args.part in
+    let past : n < n / part * part + part = lt-div-mul-add c.requires.fact_1 in
     let more : (n / part + 1) * part ≡ n / part * part + part = ap (λ k. k * part) (add-one (n / part)) ∙ suc-mul (n / part) part in
     record { some = omega arith; few = omega arith; enough = λ i h k. omega arith }
 

@@ -9,22 +9,19 @@ use Rattle.item_reader.proofs.items.count_item.Goals as goal
 
 pub returns-then-left-lt5 : goal.returns-then-left-lt5
 returns-then-left-lt5 c =
-    let start = c in
-    let a = start.args in
+    let a = c.args in
     let r = rest a.h a.words.now a.place.word a.place.bit in
     λ l e k. sym (count_cut l a.used (omega arith))
 
 pub raw_item-requires : goal.raw_item-requires
 raw_item-requires c =
-    let start = c in
-    let a = start.args in
+    let a = c.args in
     let r = rest a.h a.words.now a.place.word a.place.bit in
     omega (arith, taken-below (rest-is-bits a.h a.words.now a.place.word a.place.bit) c.take_bits-short.ensures)
 
 pub returns-then-short-ne0 : goal.returns-then-short-ne0
 returns-then-short-ne0 c =
-    let start = c in
-    let a = start.args in
+    let a = c.args in
     let r = rest a.h a.words.now a.place.word a.place.bit in
     let t = c.take_bits-short in
     λ l e k.
@@ -34,16 +31,14 @@ returns-then-short-ne0 c =
 
 pub returns-then-left-lt16 : goal.returns-then-left-lt16
 returns-then-left-lt16 c =
-    let start = c in
-    let a = start.args in
+    let a = c.args in
     let r = rest a.h a.words.now a.place.word a.place.bit in
     let t = c.take_bits-short in
     λ l e k. sym (long-cut l a.used (omega arith) (field-says l a.used e t.ensures ∙ c.if-short-ne0.false) (omega arith))
 
 pub take_bits-long-requires : goal.take_bits-long-requires
 take_bits-long-requires c =
-    let start = c in
-    let a = start.args in
+    let a = c.args in
     let r = rest a.h a.words.now a.place.word a.place.bit in record {
       h_bound_1 = omega (arith, taken-left c.take_bits-short.ensures);
       h_bound_2 = omega (arith, taken-left c.take_bits-short.ensures);
@@ -52,24 +47,21 @@ take_bits-long-requires c =
 
 pub overflow_add-long : goal.overflow_add-long
 overflow_add-long c =
-    let start = c in
-    let a = start.args in
+    let a = c.args in
     let r = rest a.h a.words.now a.place.word a.place.bit in
     let p = c.take_bits-short.result.next in
     omega (arith, taken-below (rest-is-bits a.h a.words.now p.word p.bit) c.take_bits-long.ensures)
 
 pub raw_item-requires-2 : goal.raw_item-requires-2
 raw_item-requires-2 c =
-    let start = c in
-    let a = start.args in
+    let a = c.args in
     let r = rest a.h a.words.now a.place.word a.place.bit in
     let p = c.take_bits-short.result.next in
     omega (arith, taken-below (rest-is-bits a.h a.words.now p.word p.bit) c.take_bits-long.ensures)
 
 pub returns : goal.returns
 returns c =
-    let start = c in
-    let a = start.args in
+    let a = c.args in
     let r = rest a.h a.words.now a.place.word a.place.bit in
     let t = c.take_bits-short in
     let v = c.take_bits-long in

@@ -11,15 +11,13 @@ use Rattle.item_reader.proofs.items.shift_item.Goals as goal
 
 pub returns-then-left-width : goal.returns-then-left-width
 returns-then-left-width c =
-    let start = c in
-    let a = start.args in
+    let a = c.args in
     let r = rest a.h a.words.now a.place.word a.place.bit in
     λ l e k. sym (shift-cut l a.used a.set (omega (arith, c.width_of-width.ensures)))
 
 pub take_bits-code-requires : goal.take_bits-code-requires
 take_bits-code-requires c =
-    let start = c in
-    let a = start.args in
+    let a = c.args in
     let r = rest a.h a.words.now a.place.word a.place.bit in record {
       h_bound_1 = omega (arith, c.width_of-width.ensures, width-bounds a.set);
       h_bound_2 = omega (arith, c.width_of-width.ensures, width-bounds a.set);
@@ -28,8 +26,7 @@ take_bits-code-requires c =
 
 pub entry_at-requires : goal.entry_at-requires
 entry_at-requires c =
-    let start = c in
-    let a = start.args in
+    let a = c.args in
     let r = rest a.h a.words.now a.place.word a.place.bit in record {
       fact_1 = omega arith;
       fact_2 = code_below a.set c.width_of-width.result c.width_of-width.ensures (rest-is-bits a.h a.words.now a.place.word a.place.bit) c.take_bits-code.ensures;
@@ -37,15 +34,13 @@ entry_at-requires c =
 
 pub overflow_add-used : goal.overflow_add-used
 overflow_add-used c =
-    let start = c in
-    let a = start.args in
+    let a = c.args in
     let r = rest a.h a.words.now a.place.word a.place.bit in
     omega (arith, c.width_of-width.ensures, width-bounds a.set)
 
 pub returns : goal.returns
 returns c =
-    let start = c in
-    let a = start.args in
+    let a = c.args in
     let r = rest a.h a.words.now a.place.word a.place.bit in
     let w = c.width_of-width in
     let t = c.take_bits-code in

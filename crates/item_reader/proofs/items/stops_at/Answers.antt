@@ -24,24 +24,21 @@ stops-by-value B l x h = ap (λ t. all_ones l && t) (lt-ltb (length l) B h) ∙ 
 
 pub returns-then-word_size-left : goal.returns-then-word_size-left
 returns-then-word_size-left c =
-    let start = c in
-    let a = start.args in
+    let a = c.args in
     let r = rest a.h a.words.now a.place.word a.place.bit in
     sym (stops-not a.word_size r (omega arith))
 
 pub overflow_sub-result : goal.overflow_sub-result
 overflow_sub-result c =
-    let start = c in
-    let a = start.args in
+    let a = c.args in
     let r = rest a.h a.words.now a.place.word a.place.bit in
     omega (arith, one_shl a.left (omega arith), pow_pos a.left)
 
 pub returns : goal.returns
 returns c =
-    let start = c in
-    let a = start.args in
+    let a = c.args in
     let r = rest a.h a.words.now a.place.word a.place.bit in
     let t = c.take_bits-last.ensures in
     let said = t.says ∙ ap (value 0) (take_all a.left r (let h : length r ≤ a.left = omega arith in h)) in
-    let most = ap (λ n. n - 1) (one_shl a.left (omega arith)) ∙ ap (λ n. 2 ^ n - 1) start.requires.left_value in
+    let most = ap (λ n. n - 1) (one_shl a.left (omega arith)) ∙ ap (λ n. 2 ^ n - 1) c.requires.left_value in
     ap₂ eqb said most ∙ sym (stops-by-value a.word_size r (rest-is-bits a.h a.words.now a.place.word a.place.bit) (omega arith))

@@ -14,70 +14,62 @@ loop-left-init c =
 
 pub offset_bounds-words-word : goal.offset_bounds-words-word
 offset_bounds-words-word c =
-    let start = c in
-    let a = start.args in
+    let a = c.args in
     let z = c.loop-left in
     let l = rest a.h a.words.now a.place.word a.place.bit in
-    omega (arith, more_left a.h a.words.now z.word z.bit a.n z.value z.left l z.invariant.0 z.invariant.1 start.requires.n_in_bounds (omega arith))
+    omega (arith, more_left a.h a.words.now z.word z.bit a.n z.value z.left l z.invariant.0 z.invariant.1 c.requires.n_in_bounds (omega arith))
 
 pub bounds-words-word : goal.bounds-words-word
 bounds-words-word c =
-    let start = c in
-    let a = start.args in
+    let a = c.args in
     let z = c.loop-left in
     let l = rest a.h a.words.now a.place.word a.place.bit in
-    omega (arith, more_left a.h a.words.now z.word z.bit a.n z.value z.left l z.invariant.0 z.invariant.1 start.requires.n_in_bounds (omega arith))
+    omega (arith, more_left a.h a.words.now z.word z.bit a.n z.value z.left l z.invariant.0 z.invariant.1 c.requires.n_in_bounds (omega arith))
 
 pub overflow_add-word : goal.overflow_add-word
 overflow_add-word c =
-    let start = c in
-    let a = start.args in
+    let a = c.args in
     let z = c.loop-left in
     let l = rest a.h a.words.now a.place.word a.place.bit in
-    omega (arith, more_left a.h a.words.now z.word z.bit a.n z.value z.left l z.invariant.0 z.invariant.1 start.requires.n_in_bounds (omega arith))
+    omega (arith, more_left a.h a.words.now z.word z.bit a.n z.value z.left l z.invariant.0 z.invariant.1 c.requires.n_in_bounds (omega arith))
 
 pub loop-left-smaller-then-size-bit : goal.loop-left-smaller-then-size-bit
 loop-left-smaller-then-size-bit c =
-    let start = c in
-    let a = start.args in
+    let a = c.args in
     let z = c.loop-left in
     let l = rest a.h a.words.now a.place.word a.place.bit in
-    omega (arith, more_left a.h a.words.now z.word z.bit a.n z.value z.left l z.invariant.0 z.invariant.1 start.requires.n_in_bounds (omega arith))
+    omega (arith, more_left a.h a.words.now z.word z.bit a.n z.value z.left l z.invariant.0 z.invariant.1 c.requires.n_in_bounds (omega arith))
 
 pub loop-left-preserved-then-size-bit : goal.loop-left-preserved-then-size-bit
 loop-left-preserved-then-size-bit c =
-    let start = c in
-    let a = start.args in
+    let a = c.args in
     let z = c.loop-left in
     let l = rest a.h a.words.now a.place.word a.place.bit in
     let size = c.word_length-size in
-    let near = more_left a.h a.words.now z.word z.bit a.n z.value z.left l z.invariant.0 z.invariant.1 start.requires.n_in_bounds
+    let near = more_left a.h a.words.now z.word z.bit a.n z.value z.left l z.invariant.0 z.invariant.1 c.requires.n_in_bounds
     (omega arith) in
     let past = rest-past a.h a.words.now z.word z.bit size.result size.ensures near (omega arith) in
     (subst (λ l'. Taken l (a.n - z.left) z.value l') past z.invariant.0, z.invariant.1)
 
 pub overflow_shl-value : goal.overflow_shl-value
 overflow_shl-value c =
-    let start = c in
-    let a = start.args in
+    let a = c.args in
     let z = c.loop-left in
     let l = rest a.h a.words.now a.place.word a.place.bit in
     omega arith
 
 pub word_part-requires : goal.word_part-requires
 word_part-requires c =
-    let start = c in
-    let a = start.args in
+    let a = c.args in
     let z = c.loop-left in
     let l = rest a.h a.words.now a.place.word a.place.bit in record {
-      fact_1 = start.requires.h_bound_1;
+      fact_1 = c.requires.h_bound_1;
       fact_2 = omega (arith, c.word_length-size.ensures, word-length-most a.h (get_or a.words.now z.word 0));
     }
 
 pub overflow_add-value : goal.overflow_add-value
 overflow_add-value c =
-    let start = c in
-    let a = start.args in
+    let a = c.args in
     let z = c.loop-left in
     let l = rest a.h a.words.now a.place.word a.place.bit in
     let k = c.smaller-k.result in
@@ -85,20 +77,18 @@ overflow_add-value c =
 
 pub overflow_add-bit : goal.overflow_add-bit
 overflow_add-bit c =
-    let start = c in
-    let a = start.args in
+    let a = c.args in
     let z = c.loop-left in
     let l = rest a.h a.words.now a.place.word a.place.bit in
     omega (arith, c.word_length-size.ensures, word-length-most a.h (get_or a.words.now z.word 0))
 
 pub loop-left-preserved : goal.loop-left-preserved
 loop-left-preserved c =
-    let start = c in
-    let a = start.args in
+    let a = c.args in
     let z = c.loop-left in
     let l = rest a.h a.words.now a.place.word a.place.bit in
     let k = c.smaller-k.result in
-    let near = more_left a.h a.words.now z.word z.bit a.n z.value z.left l z.invariant.0 z.invariant.1 start.requires.n_in_bounds
+    let near = more_left a.h a.words.now z.word z.bit a.n z.value z.left l z.invariant.0 z.invariant.1 c.requires.n_in_bounds
     (omega arith) in
     let more = take_more a.h a.words.now z.word z.bit a.n z.value z.left l z.invariant.0 z.invariant.1 k in (
       more _ (omega arith) near (omega (arith, c.word_length-size.ensures)) (omega (arith, value-fits a.h a.words.now z.word z.bit a.n z.value z.left l z.invariant.0 z.invariant.1 k (rest-is-bits a.h a.words.now a.place.word a.place.bit) (omega arith) (omega arith), c.word_part.ensures)),
@@ -107,8 +97,7 @@ loop-left-preserved c =
 
 pub returns : goal.returns
 returns c =
-    let start = c in
-    let a = start.args in
+    let a = c.args in
     let z = c.loop-left in
     let l = rest a.h a.words.now a.place.word a.place.bit in
     let all : a.n - z.left ≡ a.n = omega arith in

@@ -11,7 +11,7 @@ pub loop-k-init : goal.loop-k-init
 loop-k-init c = (omega arith, sym (count_none _))
 
 pub ring_place-at-requires : goal.ring_place-at-requires
-ring_place-at-requires c = let s = c in (s.requires.0, s.requires.1, omega arith)
+ring_place-at-requires c = (c.requires.0, c.requires.1, omega arith)
 
 pub bounds-grid-at : goal.bounds-grid-at
 bounds-grid-at c = omega (arith, c.ring_place-at.ensures.1, c.requires.2)

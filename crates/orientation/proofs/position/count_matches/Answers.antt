@@ -15,9 +15,9 @@ loop-p-init c = (omega arith, refl, λ p h. absurd (omega arith))
 
 pub matches_of-requires : goal.matches_of-requires
 matches_of-requires c =
-    let s = c in record {
-      fact_1 = (s.requires.0, s.requires.1, s.requires.2, omega arith);
-      fact_2 = upright s.args.full s.args.n c.orientation_places.ensures;
+    record {
+      fact_1 = (c.requires.0, c.requires.1, c.requires.2, omega arith);
+      fact_2 = upright c.args.full c.args.n c.orientation_places.ensures;
     }
 
 pub loop-p-preserved : goal.loop-p-preserved

@@ -13,15 +13,14 @@ use Rattle.orientation.proofs.position.matches_of.Goals.{In-loop-k, else-grid-at
 upright-lt : (c : In-loop-k)
     → (let a = c.args in get_or a.upright.now c.loop-k.k 0 < a.n * a.n)
 upright-lt c =
-    let s = c in
     let k = c.loop-k.k in
-    omega (arith, s.requires.fact_2 k (omega arith), orientation-lt s.args.full s.args.n s.requires.fact_1.0 k (omega arith))
+    omega (arith, c.requires.fact_2 k (omega arith), orientation-lt c.args.full c.args.n c.requires.fact_1.0 k (omega arith))
 
 pub loop-k-init : goal.loop-k-init
 loop-k-init c = (omega arith, sym (count_none _))
 
 pub place_in-at-requires : goal.place_in-at-requires
-place_in-at-requires c = let s = c in (upright-lt (goal.at.place_in-at-requires c).In-loop-k, s.requires.fact_1.1, s.requires.fact_1.3)
+place_in-at-requires c = (upright-lt (goal.at.place_in-at-requires c).In-loop-k, c.requires.fact_1.1, c.requires.fact_1.3)
 
 pub bounds-grid-at : goal.bounds-grid-at
 bounds-grid-at c = omega (arith, c.place_in-at.ensures.1, c.requires.fact_1.2)
@@ -36,9 +35,8 @@ pub loop-k-preserved : goal.loop-k-preserved
 unfolding orientation_bits
 loop-k-preserved c =
     let l = c.loop-k in
-    let s = c in
-    let a = s.args in
-    let place = c.place_in-at.ensures.0 ∙ ap (place_in a.n a.p) (s.requires.fact_2 l.k (omega arith)) in
+    let a = c.args in
+    let place = c.place_in-at.ensures.0 ∙ ap (place_in a.n a.p) (c.requires.fact_2 l.k (omega arith)) in
     let at = ap (λ x. get_or a.grid.now x 0) place in
     let test = hit a.full a.n a.grid.now a.p in (
       omega arith,

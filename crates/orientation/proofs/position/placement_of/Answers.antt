@@ -44,16 +44,14 @@ returns-then-p-lt8 c =
 
 pub overflow_cast-matched : goal.overflow_cast-matched
 overflow_cast-matched c =
-    let s = c in
-    let a = s.args in
-    let x = s.count_matches-counts in
+    let a = c.args in
+    let x = c.count_matches-counts in
     let few = best-few a.full a.n a.grid.now in
     omega (arith, matched a.full a.n a.grid.now x.result x.ensures c.most_of-most.ensures)
 
 pub returns : goal.returns
 returns c =
-    let s = c in
-    let a = s.args in
-    let x = s.count_matches-counts in
-    unplaced a.full a.n a.grid.now x.result x.ensures s.position_in-p.ensures
+    let a = c.args in
+    let x = c.count_matches-counts in
+    unplaced a.full a.n a.grid.now x.result x.ensures c.position_in-p.ensures
     c.if-p-lt8.false c.most_of-most.ensures c.positions_with-positions.ensures

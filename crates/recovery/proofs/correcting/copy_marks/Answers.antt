@@ -19,20 +19,18 @@ pub bounds-to-i : goal.bounds-to-i
 bounds-to-i c = let l = (goal.at.bounds-to-i c).At-loop-i in omega (arith, kept l, l.requires)
 
 pub loop-i-preserved : goal.loop-i-preserved
-loop-i-preserved c =
-    let l = c in (
-      omega arith,
-      filled-step (λ k. get_or l.args.from.now k 0) l.loop-i.i l.args.to.now l.loop-i.invariant.1 refl
-          (omega (arith, l.requires)),
-    )
+loop-i-preserved c = (
+  omega arith,
+  filled-step (λ k. get_or c.args.from.now k 0) c.loop-i.i c.args.to.now c.loop-i.invariant.1 refl
+      (omega (arith, c.requires)),
+)
 
 pub returns : goal.returns
 returns c =
-    let l = c in
-    let from = l.args.from.now in
-    let to = l.args.to.now in
-    l.loop-i.invariant.1
-    ∙ ap (λ n. filled (λ k. get_or from k 0) n to) (let e : l.loop-i.i ≡ length to = omega (arith, l.loop-i.invariant.0, l.requires) in e)
+    let from = c.args.from.now in
+    let to = c.args.to.now in
+    c.loop-i.invariant.1
+    ∙ ap (λ n. filled (λ k. get_or from k 0) n to) (let e : c.loop-i.i ≡ length to = omega (arith, c.loop-i.invariant.0, c.requires) in e)
     ∙ filled-all (λ k. get_or from k 0) to
-    ∙ ap (tabulate (λ k. get_or from k 0)) l.requires
+    ∙ ap (tabulate (λ k. get_or from k 0)) c.requires
     ∙ tabulate-get_or 0 from

@@ -10,16 +10,13 @@ use Rattle.recovery.proofs.correcting.correct_mode_with.Goals as goal
 
 pub returns : goal.returns
 returns c =
-    let fixed = c in
-    let read = fixed in
-    let a = read in
-    let ws = mode_words_of a.args.full a.args.n a.args.upright.now in
-    let ms = mode_marks_of a.args.full a.args.n a.args.upright.now in
+    let ws = mode_words_of c.args.full c.args.n c.args.upright.now in
+    let ms = mode_marks_of c.args.full c.args.n c.args.upright.now in
     let same =
-    ap (λ k. correct_of 4 k read.read_mode.new.mode_words read.read_mode.new.marks a.args.corrected.now)
-    fixed.mode_checks_of.ensures
-    ∙ ap₂ (λ r m. correct_of 4 (mode_checks a.args.full) r m a.args.corrected.now) read.read_mode.ensures.mode_words_after read.read_mode.ensures.marks_after in
-    corrected-by 4 (mode_checks a.args.full) ws ms (mode-lawful a.args.full a.args.n a.args.upright.now) a.args.corrected.now
-    fixed.correct.new.corrected fixed.correct.result
-    (a.requires.received_len.2 ∙ length-mode-of a.args.full a.args.n a.args.upright.now)
-    (fixed.correct.ensures.value ∙ ap (λ r. r.number) same) (fixed.correct.ensures.corrected_after ∙ ap (λ r. r.words) same)
+    ap (λ k. correct_of 4 k c.read_mode.new.mode_words c.read_mode.new.marks c.args.corrected.now)
+    c.mode_checks_of.ensures
+    ∙ ap₂ (λ r m. correct_of 4 (mode_checks c.args.full) r m c.args.corrected.now) c.read_mode.ensures.mode_words_after c.read_mode.ensures.marks_after in
+    corrected-by 4 (mode_checks c.args.full) ws ms (mode-lawful c.args.full c.args.n c.args.upright.now) c.args.corrected.now
+    c.correct.new.corrected c.correct.result
+    (c.requires.received_len.2 ∙ length-mode-of c.args.full c.args.n c.args.upright.now)
+    (c.correct.ensures.value ∙ ap (λ r. r.number) same) (c.correct.ensures.corrected_after ∙ ap (λ r. r.words) same)

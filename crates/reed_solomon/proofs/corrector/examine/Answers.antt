@@ -13,20 +13,18 @@ use Rattle.reed_solomon.proofs.corrector.examine.Goals as goal
 
 pub returns-then-powers-n : goal.returns-then-powers-n
 returns-then-powers-n c =
-    let all = let s = c in
-    let a = s.args in
+    let all = let a = c.args in
     let size = size_of a.size in
     let received = a.received.now in
     let marks = a.marks.now in
-    as-answer (judge-32 size a.check_words received marks a.corrected.now (λ k. omega (arith, s.requires.tables_1.exp-length))) (refl, refl) in record {
+    as-answer (judge-32 size a.check_words received marks a.corrected.now (λ k. omega (arith, c.requires.tables_1.exp-length))) (refl, refl) in record {
       value = all.0;
       corrected_after = all.1;
     }
 
 pub returns-then-check_words-eq0 : goal.returns-then-check_words-eq0
 returns-then-check_words-eq0 c =
-    let all = let s = c in
-    let a = s.args in
+    let all = let a = c.args in
     let size = size_of a.size in
     let received = a.received.now in
     let marks = a.marks.now in
@@ -37,8 +35,7 @@ returns-then-check_words-eq0 c =
 
 pub returns-then-n-check_words : goal.returns-then-n-check_words
 returns-then-n-check_words c =
-    let all = let s = c in
-    let a = s.args in
+    let all = let a = c.args in
     let size = size_of a.size in
     let received = a.received.now in
     let marks = a.marks.now in
@@ -49,40 +46,37 @@ returns-then-n-check_words c =
 
 pub read_block-e-requires : goal.read_block-e-requires
 read_block-e-requires c =
-    let s = c in
-    let a = s.args in
+    let a = c.args in
     let size = size_of a.size in
     let received = a.received.now in
     let marks = a.marks.now in
-    let lt : length received < 2 ^ bits size = omega (arith, s.requires.tables_1.exp-length) in record {
-      fact_1 = s.requires.tables_2;
-      fact_2 = omega (arith, (s.requires.blank_1 lt).longer);
-      fact_3 = omega (arith, s.requires.tables_1.exp-length, most-words size);
+    let lt : length received < 2 ^ bits size = omega (arith, c.requires.tables_1.exp-length) in record {
+      fact_1 = c.requires.tables_2;
+      fact_2 = omega (arith, (c.requires.blank_1 lt).longer);
+      fact_3 = omega (arith, c.requires.tables_1.exp-length, most-words size);
     }
 
 pub returns-then-n-e : goal.returns-then-n-e
 returns-then-n-e c =
-    let all = let s = c in
-    let a = s.args in
+    let all = let a = c.args in
     let size = size_of a.size in
     let received = a.received.now in
     let marks = a.marks.now in
-    let counts : Counts size a.check_words (length received) = (omega (arith, s.requires.tables_1.exp-length), omega arith, omega arith) in
-    let read = c.read_block-e.ensures size s.requires.tables_1.exp-length in
-    as-answer (judge-33 size a.check_words received marks a.corrected.now counts (refused-words size received marks s.requires.tables_2 read c.if-n-e.true)) (refl, refl) in record {
+    let counts : Counts size a.check_words (length received) = (omega (arith, c.requires.tables_1.exp-length), omega arith, omega arith) in
+    let read = c.read_block-e.ensures size c.requires.tables_1.exp-length in
+    as-answer (judge-33 size a.check_words received marks a.corrected.now counts (refused-words size received marks c.requires.tables_2 read c.if-n-e.true)) (refl, refl) in record {
       value = all.0;
       corrected_after = all.1;
     }
 
 pub returns-then-check_words-e : goal.returns-then-check_words-e
 returns-then-check_words-e c =
-    let all = let s = c in
-    let a = s.args in
+    let all = let a = c.args in
     let size = size_of a.size in
     let received = a.received.now in
     let marks = a.marks.now in
-    let counts : Counts size a.check_words (length received) = (omega (arith, s.requires.tables_1.exp-length), omega arith, omega arith) in
-    let read = c.read_block-e.ensures size s.requires.tables_1.exp-length in
+    let counts : Counts size a.check_words (length received) = (omega (arith, c.requires.tables_1.exp-length), omega arith, omega arith) in
+    let read = c.read_block-e.ensures size c.requires.tables_1.exp-length in
     let words = read-words size received marks read (omega (arith, c.if-n-e.false)) in
     let out : nearest size a.check_words a.check_words received marks ≡ none
     = too-many-marks size a.check_words a.check_words received marks (omega (arith, read.marks-counted words, c.if-check_words-e.true)) in
@@ -96,33 +90,31 @@ returns-then-check_words-e c =
 
 pub solve-requires : goal.solve-requires
 solve-requires c =
-    let s = c in
-    let a = s.args in
+    let a = c.args in
     let size = size_of a.size in
     let received = a.received.now in
     let marks = a.marks.now in
-    let counts : Counts size a.check_words (length received) = (omega (arith, s.requires.tables_1.exp-length), omega arith, omega arith) in
-    let read = c.read_block-e.ensures size s.requires.tables_1.exp-length in
+    let counts : Counts size a.check_words (length received) = (omega (arith, c.requires.tables_1.exp-length), omega arith, omega arith) in
+    let read = c.read_block-e.ensures size c.requires.tables_1.exp-length in
     let words = read-words size received marks read (omega (arith, c.if-n-e.false)) in
-    let l = lawful size a.check_words received marks a.corrected.now counts words s.requires.tables_2 in record {
-      tables_1 = s.requires.tables_1;
+    let l = lawful size a.check_words received marks a.corrected.now counts words c.requires.tables_2 in record {
+      tables_1 = c.requires.tables_1;
       tables_2 = l;
-      tables_3 = s.requires.tables_3;
+      tables_3 = c.requires.tables_3;
       tables_4 = omega (arith, read.marks-counted words, c.if-check_words-e.false);
       coefficients_1 = read.coefficients words;
-      coefficients_2 = omega (arith, c.read_block-e.auto.to, (s.requires.blank_1 l.length-lt).longer);
-      coefficients_3 = s.requires.blank_2 l.length-lt;
+      coefficients_2 = omega (arith, c.read_block-e.auto.to, (c.requires.blank_1 l.length-lt).longer);
+      coefficients_3 = c.requires.blank_2 l.length-lt;
     }
 
 pub returns : goal.returns
 returns c =
-    let all = let s = c in
-    let a = s.args in
+    let all = let a = c.args in
     let size = size_of a.size in
     let received = a.received.now in
     let marks = a.marks.now in
-    let counts : Counts size a.check_words (length received) = (omega (arith, s.requires.tables_1.exp-length, c.if-powers-n.false), omega (arith, c.if-check_words-eq0.false), omega (arith, c.if-n-check_words.false)) in
-    let read = c.read_block-e.ensures size s.requires.tables_1.exp-length in
+    let counts : Counts size a.check_words (length received) = (omega (arith, c.requires.tables_1.exp-length, c.if-powers-n.false), omega (arith, c.if-check_words-eq0.false), omega (arith, c.if-n-check_words.false)) in
+    let read = c.read_block-e.ensures size c.requires.tables_1.exp-length in
     let words = read-words size received marks read (omega (arith, c.if-n-e.false)) in
     as-answer (judge-answer size a.check_words received marks a.corrected.now counts words) (c.solve.ensures.value, c.solve.ensures.corrected_after) in record {
       value = all.0;

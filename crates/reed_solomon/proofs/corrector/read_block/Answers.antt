@@ -10,7 +10,7 @@ use Rattle.reed_solomon.proofs.corrector.read_block.Goals.{else-marks-i-eq0, the
 
 pub loop-i-init : goal.loop-i-init
 loop-i-init c =
-    let s = c in (search rules, refl, reading-none s.args.words s.args.received.now s.args.marks.now s.args.to.now)
+    (search rules, refl, reading-none c.args.words c.args.received.now c.args.marks.now c.args.to.now)
 
 pub returns-then-marks-i-gt1 : goal.returns-then-marks-i-gt1
 returns-then-marks-i-gt1 c s e =
@@ -32,17 +32,15 @@ returns-then-words-received c s e =
 
 pub overflow_add-e : goal.overflow_add-e
 overflow_add-e c =
-    let start = c in
     let l = c.loop-i in
-    omega (arith, l.invariant.2.counted, count_most l.i (marked start.args.marks.now))
+    omega (arith, l.invariant.2.counted, count_most l.i (marked c.args.marks.now))
 
 pub loop-i-preserved : goal.loop-i-preserved
 loop-i-preserved c =
-    let start = c in
     let l = c.loop-i in
-    let words = start.args.words in
-    let received = start.args.received.now in
-    let marks = start.args.marks.now in
+    let words = c.args.words in
+    let received = c.args.received.now in
+    let marks = c.args.marks.now in
     let pass : T (passes words received marks l.i) = elim c.if-marks-i-eq0.branch [ then-marks-i-eq0+else-words-received w ↦ word-passes words received marks l.i w.if-marks-i-eq0.true w.if-words-received.false | else-marks-i-eq0 w ↦ marked-passes words received marks l.i (omega (arith, w.if-marks-i-eq0.false)) ] in (
       search rules,
       simp length-set (search rules),

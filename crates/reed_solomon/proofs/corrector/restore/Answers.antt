@@ -9,15 +9,13 @@ loop-i-init c = (search rules, search rules, filled_none _ _)
 
 pub loop-i-preserved : goal.loop-i-preserved
 loop-i-preserved c =
-    let s = c in
     let l = c.loop-i in
-    let h : l.i < length s.args.to.now = omega arith in
-    (search rules, simp length-set (search rules), filled-step (λ (i : ℕ). get_or s.args.from.now (length s.args.to.now - 1 - i) 0) _ _ l.invariant.2 refl h)
+    let h : l.i < length c.args.to.now = omega arith in
+    (search rules, simp length-set (search rules), filled-step (λ (i : ℕ). get_or c.args.from.now (length c.args.to.now - 1 - i) 0) _ _ l.invariant.2 refl h)
 
 pub returns : goal.returns
 returns c =
-    let s = c in
     let l = c.loop-i in
-    let f : ℕ → ℕ = λ i. get_or s.args.from.now (length s.args.to.now - 1 - i) 0 in
-    let all : l.i ≡ length s.args.to.now = omega arith in
-    l.invariant.2 ∙ ap (λ n. filled f n s.args.to.now) all ∙ filled-all f s.args.to.now
+    let f : ℕ → ℕ = λ i. get_or c.args.from.now (length c.args.to.now - 1 - i) 0 in
+    let all : l.i ≡ length c.args.to.now = omega arith in
+    l.invariant.2 ∙ ap (λ n. filled f n c.args.to.now) all ∙ filled-all f c.args.to.now

@@ -11,14 +11,13 @@ loop-k-init c = (search rules, refl, filled_none _ _)
 
 pub loop-k-preserved : goal.loop-k-preserved
 loop-k-preserved c =
-    let l = c in
-    let a = l.args in
-    let k = l.loop-k.k in
+    let a = c.args in
+    let k = c.loop-k.k in
     let f = after a.changes.now a.tag.now in
-    let was = ap (λ t. get_or t k 0) l.loop-k.invariant.2 ∙ get_or-unfilled f 0 k k a.tag.now (le_refl k) in (
+    let was = ap (λ t. get_or t k 0) c.loop-k.invariant.2 ∙ get_or-unfilled f 0 k k a.tag.now (le_refl k) in (
       search rules,
-      simp length-set l.loop-k.invariant.1,
-      filled-step f k _ l.loop-k.invariant.2 (c.changed.ensures ∙ ap (λ m. changed_to m (get_or a.changes.now k 3)) was) (omega arith),
+      simp length-set c.loop-k.invariant.1,
+      filled-step f k _ c.loop-k.invariant.2 (c.changed.ensures ∙ ap (λ m. changed_to m (get_or a.changes.now k 3)) was) (omega arith),
     )
 
 pub returns : goal.returns

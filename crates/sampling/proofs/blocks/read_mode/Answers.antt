@@ -13,8 +13,7 @@ start c = (goal.at.After-mode_places c).Start
 
 pub mode_places-requires : goal.mode_places-requires
 mode_places-requires c =
-    let s = c in
-    (s.requires.full_bound.0, s.requires.full_bound.1, omega (arith, run-most s.args.full))
+    (c.requires.full_bound.0, c.requires.full_bound.1, omega (arith, run-most c.args.full))
 
 pub read_words-requires : goal.read_words-requires
 read_words-requires c =

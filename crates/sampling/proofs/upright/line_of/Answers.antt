@@ -8,13 +8,12 @@ use Rattle.sampling.proofs.upright.line_of.Goals.{After-turned_cell-first}
 start-lt : (c : After-turned_cell-first)
     → c.turned_cell-first.result.row * c.args.n + c.turned_cell-first.result.col < 22801
 start-lt c =
-    let s = c in
-    let n = s.args.n in
+    let n = c.args.n in
     let e = c.turned_cell-first.ensures in
     omega (
       arith,
-      first-lt n s.args.position s.args.row s.requires.2 e.0 e.1,
-      mul-le-mul {n₁ = n} {m₁ = n} {n₂ = 151} {m₂ = 151} s.requires.1 s.requires.1,
+      first-lt n c.args.position c.args.row c.requires.2 e.0 e.1,
+      mul-le-mul {n₁ = n} {m₁ = n} {n₂ = 151} {m₂ = 151} c.requires.1 c.requires.1,
     )
 
 pub overflow_mul-start : goal.overflow_mul-start

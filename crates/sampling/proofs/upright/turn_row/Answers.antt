@@ -26,8 +26,7 @@ inside c = let l = (goal.at.In-loop-c c).At-loop-c in let a = (start l).args in 
 
 pub overflow_mul-first : goal.overflow_mul-first
 overflow_mul-first c =
-    let s = c in
-    omega (arith, s.requires, index-lt s.args.n s.args.row 0 s.requires.2 (omega arith))
+    omega (arith, c.requires, index-lt c.args.n c.args.row 0 c.requires.2 (omega arith))
 
 pub loop-c-init : goal.loop-c-init
 loop-c-init c = (search rules, refl, writes-none _ _ _)

@@ -9,14 +9,12 @@ loop-row-init c = (search rules, refl, rw zero-mul (writes-none _ _ _))
 
 pub turn_row-requires : goal.turn_row-requires
 turn_row-requires c =
-    let s = c in
-    (search rules, search rules, omega arith, s.requires.2, omega (arith, s.requires.3))
+    (search rules, search rules, omega arith, c.requires.2, omega (arith, c.requires.3))
 
 pub loop-row-preserved : goal.loop-row-preserved
 loop-row-preserved c =
-    let l = c in
-    let n = l.args.n in
-    (search rules, search rules, writes_more _ _ _ (l.loop-row.row * n) n _ l.loop-row.invariant.2 c.turn_row.ensures (omega arith))
+    let n = c.args.n in
+    (search rules, search rules, writes_more _ _ _ (c.loop-row.row * n) n _ c.loop-row.invariant.2 c.turn_row.ensures (omega arith))
 
 pub returns : goal.returns
 returns c =

@@ -14,8 +14,8 @@ loop-i-init c = (record { buffer = refl; ahead = refl }, omega arith)
 
 pub take_bits-byte-requires : goal.take_bits-byte-requires
 take_bits-byte-requires c =
-    let start = c in record {
-      h_bound_1 = start.requires.h_bound_1;
+    record {
+      h_bound_1 = c.requires.h_bound_1;
       h_bound_2 = omega arith;
       n_in_bounds = stored-left c.loop-i.invariant.0 (omega arith);
     }

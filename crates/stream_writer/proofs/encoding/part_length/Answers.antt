@@ -16,23 +16,20 @@ returns-then-i-from-eq31 c = omega (arith, c.loop-i.invariant)
 pub returns-then-home_of-lt5 : goal.returns-then-home_of-lt5
 unfolding next_part
 returns-then-home_of-lt5 c =
-    let l = c in
-    let m = l.args.message.now in
+    let m = c.args.message.now in
     omega (
       arith,
-      l.loop-i.invariant,
-      run-ends-at m l.loop-i.i (omega arith) (coded-yes (get_or m l.loop-i.i 0) _ c.home_of.ensures c.if-home_of-lt5.true),
+      c.loop-i.invariant,
+      run-ends-at m c.loop-i.i (omega arith) (coded-yes (get_or m c.loop-i.i 0) _ c.home_of.ensures c.if-home_of-lt5.true),
     )
 
 pub loop-i-preserved : goal.loop-i-preserved
 loop-i-preserved c =
-    let l = c in
-    let m = l.args.message.now in
-    let no = coded-no (get_or m l.loop-i.i 0) _ c.home_of.ensures c.if-home_of-lt5.false in
-    (omega arith, omega arith, omega arith, omega (arith, l.loop-i.invariant.3, run-more-at m l.loop-i.i (omega arith) no))
+    let m = c.args.message.now in
+    let no = coded-no (get_or m c.loop-i.i 0) _ c.home_of.ensures c.if-home_of-lt5.false in
+    (omega arith, omega arith, omega arith, omega (arith, c.loop-i.invariant.3, run-more-at m c.loop-i.i (omega arith) no))
 
 pub returns : goal.returns
 unfolding next_part
 returns c =
-    let l = c in
-    omega (arith, l.loop-i.invariant, run-ends-last l.args.message.now l.loop-i.i (omega arith))
+    omega (arith, c.loop-i.invariant, run-ends-last c.args.message.now c.loop-i.i (omega arith))

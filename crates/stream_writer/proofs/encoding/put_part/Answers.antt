@@ -32,9 +32,9 @@ few2 c = omega (arith, few (first c), bits-count 5 31 (start (latched (first c))
 
 pub latch-path-requires : goal.latch-path-requires
 latch-path-requires c =
-    let s = c in record {
-      fact_1 = s.requires.fact_2.0;
-      fact_2 = rw c.run_set_of.ensures (run-facts s.args.set s.requires.fact_2.0).set;
+    record {
+      fact_1 = c.requires.fact_2.0;
+      fact_2 = rw c.run_set_of.ensures (run-facts c.args.set c.requires.fact_2.0).set;
     }
 
 pub put_code-shifted-requires : goal.put_code-shifted-requires

@@ -9,6 +9,5 @@ returns-then-code_in-lt32 c = let a = c.args in target-here a.set a.b _ c.code_i
 
 pub returns : goal.returns
 returns c =
-    let i = c in
-    let a = i.args in
-    c.home_of.ensures ∙ target-home a.set a.b _ i.code_in.ensures i.if-code_in-lt32.false
+    let a = c.args in
+    c.home_of.ensures ∙ target-home a.set a.b _ c.code_in.ensures c.if-code_in-lt32.false

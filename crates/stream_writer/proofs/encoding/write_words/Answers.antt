@@ -32,8 +32,7 @@ loop-i-smaller c = let t = c.put_next-turn.ensures in omega (arith, t.more, t.in
 
 pub loop-i-preserved : goal.loop-i-preserved
 loop-i-preserved c =
-    let t = c in
-    (search rules, written-more t.loop-i.invariant.1 t.put_next-turn.ensures)
+    (search rules, written-more c.loop-i.invariant.1 c.put_next-turn.ensures)
 
 pub finish-requires : goal.finish-requires
 finish-requires c = let l = (goal.at.finish-requires c).At-loop-i in (omega arith, omega arith, omega (arith, few l), l.loop-i.invariant.1.written.state)

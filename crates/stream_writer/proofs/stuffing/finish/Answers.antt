@@ -19,8 +19,8 @@ loop-k-init c = (omega arith, refl, ending-none c.requires.3)
 
 pub put_bit-requires : goal.put_bit-requires
 put_bit-requires c =
-    let s = c in record {
-      fact_1 = (s.requires.0, s.requires.1);
+    record {
+      fact_1 = (c.requires.0, c.requires.1);
       fact_2 = c.loop-k.invariant.2.state;
       fact_3 = omega arith;
     }
@@ -57,7 +57,7 @@ store-requires c =
 
 pub loop-k-smaller : goal.loop-k-smaller
 loop-k-smaller c =
-    let l = c in omega (arith, l.loop-k.invariant.2.state.few)
+    omega (arith, c.loop-k.invariant.2.state.few)
 
 pub loop-k-preserved : goal.loop-k-preserved
 loop-k-preserved c =

@@ -55,7 +55,7 @@ pub overflow_sub-h : goal.overflow_sub-h
 overflow_sub-h c = let h = c.args.h in rw (shl_one h (omega arith)) (pow_pos h)
 
 pub overflow_mul-result : goal.overflow_mul-result
-overflow_mul-result c = let s = c in omega (arith, small s.requires.fact_1.1 s.requires.fact_2)
+overflow_mul-result c = omega (arith, small c.requires.fact_1.1 c.requires.fact_2)
 
 pub returns-then-w-h : goal.returns-then-w-h
 returns-then-w-h c =

@@ -8,15 +8,14 @@ use Rattle.stream_writer.proofs.stuffing.put_code.Goals.{At-loop-i}
 
 pub loop-i-init : goal.loop-i-init
 loop-i-init c =
-    let s = c in
-    let a = s.args in
+    let a = c.args in
     let o = a.out in
-    (omega arith, omega arith, refl, sent-none a.h a.width a.code o.count o.bits o.value a.words.now s.requires.fact_1.3)
+    (omega arith, omega arith, refl, sent-none a.h a.width a.code o.count o.bits o.value a.words.now c.requires.fact_1.3)
 
 pub put_bit-requires : goal.put_bit-requires
 put_bit-requires c =
-    let s = c in record {
-      fact_1 = (s.requires.fact_1.0, s.requires.fact_1.1);
+    record {
+      fact_1 = (c.requires.fact_1.0, c.requires.fact_1.1);
       fact_2 = c.loop-i.invariant.3.state;
       fact_3 = omega arith;
     }

@@ -9,9 +9,8 @@ loop-s-init c = (omega arith, c.mode_run_of-run.ensures, rw zero-mul (writes-non
 
 pub mode_side-requires : goal.mode_side-requires
 mode_side-requires c =
-    let s = c in
     let i = c.loop-s.invariant in
-    (s.requires.0, s.requires.1, omega arith, i.1, omega (arith, simp length-writes at (ap length i.2)))
+    (c.requires.0, c.requires.1, omega arith, i.1, omega (arith, simp length-writes at (ap length i.2)))
 
 pub loop-s-preserved : goal.loop-s-preserved
 loop-s-preserved c =

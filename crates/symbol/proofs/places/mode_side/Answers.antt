@@ -29,8 +29,7 @@ core_place-requires c =
 below : (c : After-mode_column)
     → (let a = c.args in a.s * a.run + c.loop-j.j < length a.places.now)
 below c =
-    let s = c in
-    omega (arith, s.requires, rows-lt 4 s.args.run s.args.s c.loop-j.j s.requires.2 c.loop-j-test.true)
+    omega (arith, c.requires, rows-lt 4 c.args.run c.args.s c.loop-j.j c.requires.2 c.loop-j-test.true)
 
 pub overflow_mul-places : goal.overflow_mul-places
 overflow_mul-places c = omega (arith, below (goal.at.overflow_mul-places c).After-mode_column)

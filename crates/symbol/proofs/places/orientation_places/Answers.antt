@@ -19,18 +19,16 @@ loop-k-init c = (omega arith, writes-none _ _ _)
 
 pub core_place-requires : goal.core_place-requires
 core_place-requires c =
-    let s = c in
-    let r = core-range s.args.full in
-    (s.requires.0, s.requires.1, omega arith, omega arith, omega arith)
+    let r = core-range c.args.full in
+    (c.requires.0, c.requires.1, omega arith, omega arith, omega arith)
 
 pub bounds-places-k : goal.bounds-places-k
 bounds-places-k c = omega (arith, simp length-writes at (ap length c.loop-k.invariant.1))
 
 pub loop-k-preserved : goal.loop-k-preserved
 loop-k-preserved c =
-    let s = c in
     let l = c.loop-k in
-    (omega arith, writes-step _ _ _ l.k l.invariant.1 refl (corner s.args.full s.args.n l.k c.core_place.ensures))
+    (omega arith, writes-step _ _ _ l.k l.invariant.1 refl (corner c.args.full c.args.n l.k c.core_place.ensures))
 
 pub returns : goal.returns
 returns c = let e : c.loop-k.k ≡ 12 = omega arith in rw e at c.loop-k.invariant.1

@@ -40,6 +40,5 @@ loop-a-preserved c = let l = c.loop-a in (omega arith, writes-step _ _ _ l.a l.i
 pub returns : goal.returns
 returns c =
     let l = c.loop-a in
-    let q = c in
-    let e : l.a ≡ square q.args.full q.args.layers = omega (arith, q.square_of-square.ensures) in
-    lined _ _ (replicate 142 0) (square-most _ _ q.requires) (rw e at l.invariant.1)
+    let e : l.a ≡ square c.args.full c.args.layers = omega (arith, c.square_of-square.ensures) in
+    lined _ _ (replicate 142 0) (square-most _ _ c.requires) (rw e at l.invariant.1)

@@ -12,15 +12,13 @@ loop-w-init c = (search rules, sym (count_none _))
 
 pub overflow_add-marked : goal.overflow_add-marked
 overflow_add-marked c =
-    let l = c in
-    omega (arith, count_most l.loop-w.w (marked l.args.marks.now))
+    omega (arith, count_most c.loop-w.w (marked c.args.marks.now))
 
 pub loop-w-preserved : goal.loop-w-preserved
 loop-w-preserved c =
-    let l = c in
-    let test = marked l.args.marks.now in (
+    let test = marked c.args.marks.now in (
       search rules,
-      elim c.if-marks-w-eq1.branch [ then-marks-w-eq1 t ↦ t.marked-is ∙ count_yes l.loop-w.w test l.loop-w.invariant.1 (eq-eqb _ _ t.if-marks-w-eq1.true) | else-marks-w-eq1 t ↦ t.marked-is ∙ count_no l.loop-w.w test l.loop-w.invariant.1 (ne_eqb _ _ t.if-marks-w-eq1.false) ],
+      elim c.if-marks-w-eq1.branch [ then-marks-w-eq1 t ↦ t.marked-is ∙ count_yes c.loop-w.w test c.loop-w.invariant.1 (eq-eqb _ _ t.if-marks-w-eq1.true) | else-marks-w-eq1 t ↦ t.marked-is ∙ count_no c.loop-w.w test c.loop-w.invariant.1 (ne_eqb _ _ t.if-marks-w-eq1.false) ],
     )
 
 pub returns : goal.returns

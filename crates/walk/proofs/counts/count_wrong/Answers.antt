@@ -14,27 +14,25 @@ loop-w-init c = (search rules, sym (count_none _))
 
 pub overflow_add-wrong : goal.overflow_add-wrong
 overflow_add-wrong c =
-    let l = c in
-    let a = l.args in
-    omega (arith, count_most l.loop-w.w (is_wrong a.received.now a.marks.now a.found.now))
+    let a = c.args in
+    omega (arith, count_most c.loop-w.w (is_wrong a.received.now a.marks.now a.found.now))
 
 pub loop-w-preserved : goal.loop-w-preserved
 loop-w-preserved c =
-    let l = c in
-    let a = l.args in
-    let w = l.loop-w.w in
+    let a = c.args in
+    let w = c.loop-w.w in
     let test = is_wrong a.received.now a.marks.now a.found.now in (
       search rules,
       elim c.if-marks-w-ne1.branch [
         | then-marks-w-ne1+then-found-w t ↦
             t.wrong-is
-            ∙ count_yes w test l.loop-w.invariant.1 (ap₂ neither (ne_eqb _ _ t.if-marks-w-ne1.true) (ne_eqb _ _ t.if-found-w.true))
+            ∙ count_yes w test c.loop-w.invariant.1 (ap₂ neither (ne_eqb _ _ t.if-marks-w-ne1.true) (ne_eqb _ _ t.if-found-w.true))
         | then-marks-w-ne1+else-found-w t ↦
             t.wrong-is
-            ∙ count_no w test l.loop-w.invariant.1 (ap₂ neither (ne_eqb _ _ t.if-marks-w-ne1.true) (eq-eqb _ _ t.if-found-w.false))
+            ∙ count_no w test c.loop-w.invariant.1 (ap₂ neither (ne_eqb _ _ t.if-marks-w-ne1.true) (eq-eqb _ _ t.if-found-w.false))
         | else-marks-w-ne1 t ↦
             t.wrong-is
-            ∙ count_no w test l.loop-w.invariant.1
+            ∙ count_no w test c.loop-w.invariant.1
             (ap (λ b. neither b (eqb (get_or a.found.now w 0) (get_or a.received.now w 0))) (eq-eqb _ _ t.if-marks-w-ne1.false))
       ],
     )
