@@ -5,7 +5,8 @@
 
 Every file that they name must exist, every name that stands alone between backquotes must be a word of some source file, every crate
 of crates.txt must stand in docs/ARCHITECTURE.md's list and in its table of check times, and every wrong program that docs/TRUST.md
-names must be a must-fail edit. docs/PORT.md is left out: it names what an older tree had. The last line is `N passed, M failed`.
+names must be a must-fail edit. docs/PORT.md and docs/DESIGN-PASS.md are left out: they name what older trees had. The last line is
+`N passed, M failed`.
 """
 import itertools
 import pathlib
@@ -17,7 +18,8 @@ ROOTS = {TOP: "crates|docs|scripts|include|harness", TOP / "harness": "src|peers
 SOURCES = ("crates/**/*.rt", "crates/**/*.antt", "crates/**/*.edit", "harness/*.rs", "harness/src/**/*.rs", "harness/peers/*", "scripts/*.py", "include/*")
 # of the C library and of what checks say, which no source of ours spells out
 OUTSIDE = {"axioms", "memset"}
-DOCUMENTS = [TOP / "README.md", TOP / "harness" / "README.md", *sorted({*(TOP / "docs").glob("*.md")} - {TOP / "docs" / "PORT.md"})]
+OLDER = {TOP / "docs" / "PORT.md", TOP / "docs" / "DESIGN-PASS.md"}
+DOCUMENTS = [TOP / "README.md", TOP / "harness" / "README.md", *sorted({*(TOP / "docs").glob("*.md")} - OLDER)]
 
 
 def expanded(path):
