@@ -13,10 +13,10 @@ POLYNOMIALS = {4: 0b11, 6: 0b11, 8: 0b101101, 10: 0b1001, 12: 0b1101001}
 
 HEADER = """\
 // The powers of x and the logarithms of words in the fields of the five word sizes: entry k of POWERS_b is x ^ k, entry a of LOGS_b the
-// exponent of the word a (0 has none, and its entry is 0). A function that names a constant array copies it: so each has one function,
-// which the public entries call once and lend from. Printed by scripts/print_tables.py, in the layout of rt fmt.
+// exponent of the word a (0 has none, and its entry is 0). They are statics, which are lent and never copied. As in the definitions, a
+// size other than 4, 6, 8 and 10 stands for 12. Printed by scripts/print_tables.py, in the layout of rt fmt.
 ghost use Rattle.std.specs.Prelude.{◌≡◌};
-ghost use Rattle.finite_field.specs.Field.{w4, w6, w8, w10, w12};
+ghost use Rattle.finite_field.specs.Field.{size_of};
 ghost use Rattle.finite_field.specs.Tables.{powers, logs};
 """
 
@@ -40,7 +40,7 @@ def tables(bits):
 def constant(name, entries):
     """On one line where it fits, else filled lines."""
     listed = ", ".join(map(str, entries))
-    head = f"const {name}: [u16; {len(entries)}] = ["
+    head = f"static {name}: [u16; {len(entries)}] = ["
     line = f"{head}{listed}];"
     if len(line) <= WIDTH:
         return line
@@ -48,15 +48,17 @@ def constant(name, entries):
     return f"{head}\n{rows}\n];"
 
 
-def table(kind, bits, entries):
-    name = f"{kind.upper()}_{bits}"
+def lookup(kind, comment):
+    *others, last = POLYNOMIALS
+    arms = "".join(f"        {bits} => &{kind.upper()}_{bits},\n" for bits in others)
     return f"""
-{constant(name, entries)}
-
-pub fn {kind}_{bits}() -> [u16; {len(entries)}]
-    ensures {{ result ≡ {kind} w{bits} }}
+// {comment}
+pub fn {kind}(size: u32) -> &'static [u16]
+    ensures {{ result.now ≡ {kind} (size_of size) }}
 {{
-    {name}
+    match size {{
+{arms}        _ => &{kind.upper()}_{last},
+    }}
 }}
 """
 
@@ -65,8 +67,10 @@ def main():
     print(HEADER, end="")
     for bits in POLYNOMIALS:
         powers, logs = tables(bits)
-        print(table("powers", bits, powers), end="")
-        print(table("logs", bits, logs), end="")
+        print("\n" + constant(f"POWERS_{bits}", powers))
+        print("\n" + constant(f"LOGS_{bits}", logs))
+    print(lookup("powers", "The powers of x, in the field of words of `size` bits."), end="")
+    print(lookup("logs", "The logarithms of words, in the same field."), end="")
 
 
 main()

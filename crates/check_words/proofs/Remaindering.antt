@@ -6,25 +6,12 @@ use mathlib.Core.List.{List, [], ◌∷◌, ◌++◌}
 use Prim.Native.Nat.{ℕ, zero, suc, ◌+◌, ◌-◌, ◌≤◌, ◌<◌}
 use native.Mathlib.Nat.{le_refl}
 use native.Mathlib.Omega.{arith}
+use native.Mathlib.Decide.{dec_lt}
 use lib.Bits.{xor_zero_r}
-use lib.ListN.{
-  length,
-  get_or,
-  take,
-  drop,
-  set,
-  replicate,
-  length-append,
-  length-drop,
-  length-replicate,
-  get_or-replicate,
-  take-append-drop,
-  get_or-append,
-  get_or-eq_default,
-}
-use lib.Seq.{length-take-le, take_all, take_at, drop_at, take-take, get_or-drop, ext_get_or}
+use lib.ListN.{length, get_or, take, drop, set, length-set, replicate, length-append, length-drop, length-replicate, take-append-drop, get_or-append, get_or-eq_default}
+use lib.Seq.{get_or-set_same, get_or-set_other, length-take-le, take_all, take_at, drop_at, take-take, get_or-drop, ext_get_or}
 use borrow.Rule.Slice.PartMut.{put_mid, mid_of}
-use Rattle.list_laws.specs.Filled.{tabulate, filled, filled-step, filled-all, length-tabulate, get_or-tabulate}
+use Rattle.list_laws.specs.Filled.{tabulate, length-tabulate, get_or-tabulate}
 use Rattle.list_laws.specs.Parts.{put-tail}
 use Rattle.finite_field.specs.Xor.{◌⊕◌}
 use Rattle.finite_field.specs.Field.{WordSize, Word, product, power}
@@ -40,31 +27,29 @@ tabulate-alike f g zero h = refl
 tabulate-alike f g (suc n) h =
     ap₂ (λ t a. t ++ a ∷ []) (tabulate-alike f g n (λ i l. h i (omega arith))) (h n (omega arith))
 
--- a buffer filled with zeros
-pub cleared : (l : List ℕ) {b : List ℕ} {n : ℕ} → b ≡ filled (λ i. 0) n l → n ≡ length l → b ≡ replicate (length l) 0
-cleared l e all =
-    e
-    ∙ ap (λ n. filled (λ i. 0) n l) all
-    ∙ filled-all (λ i. 0) l
-    ∙ ext_get_or 0 (tabulate (λ i. 0) (length l)) (replicate (length l) 0)
-    (length-tabulate (λ i. 0) (length l) ∙ sym (length-replicate (length l) 0))
-    (λ i h.
-    let k : i < length l = rw length-tabulate at h in
-    get_or-tabulate (λ i. 0) 0 (length l) i k ∙ sym (get_or-replicate (length l) i 0 0 k))
-
 -- place i of l, moved up
 abbrev pub moving : List ℕ → ℕ → ℕ
 moving l i = get_or l (i + 1) 0
 
--- 0 comes in at the end
-pub moved-last : (last : ℕ) (l : List ℕ) {b : List ℕ} → b ≡ filled (moving l) last l → last + 1 ≡ length l
-    → set b last 0 ≡ tabulate (moving l) (length l)
-moved-last last l e all =
-    let past : length l ≤ last + 1 = omega arith in
-    let fits : last < length l = omega arith in
-    filled-step (moving l) last l e (sym (get_or-eq_default l 0 {n = last + 1} past)) fits
-    ∙ ap (λ n. filled (moving l) n l) all
-    ∙ filled-all (moving l) l
+-- b is l moved up, and 0 comes in at the end
+pub moved-up : (l b : List ℕ) → length b ≡ length l → 0 < length l
+    → ((i : ℕ) → i < length l - 1 → get_or b i 0 ≡ moving l i) → set b (length l - 1) 0 ≡ tabulate (moving l) (length l)
+moved-up l b size pos h =
+    ext_get_or 0 (set b last 0) (tabulate (moving l) (length l))
+    (length-set b last 0 ∙ size ∙ sym (length-tabulate (moving l) (length l)))
+    (λ i k.
+    let below : i < length l = rw (length-set, size) at k in
+    at i below (dec_lt i last) ∙ sym (get_or-tabulate (moving l) 0 (length l) i below))
+  where
+    last : ℕ
+    last = length l - 1
+
+    at : (i : ℕ) → i < length l → Dec (i < last) → get_or (set b last 0) i 0 ≡ moving l i
+    at i below (yes k) = get_or-set_other b last i 0 0 (omega arith) ∙ h i k
+    at i below (no k) =
+        let here : i ≡ last = omega arith in
+        let past : length l ≤ last + 1 = omega arith in
+        rw here (get_or-set_same b last 0 0 (omega (arith, size)) ∙ sym (get_or-eq_default l 0 {n = last + 1} past))
 
 module _ (s : WordSize) where
   -- place i of l, with 2^k times g added

@@ -8,3 +8,4 @@ pub mod Correcting
 pub mod Settling
 pub mod Acceptance
 pub mod Coefficients
+mod Counting

@@ -1,15 +1,15 @@
 -- What the decoder answers, and the message buffer afterwards (document 01, "How a grid is read" and numbers 11 to 21): a view of how the
 -- walk over the grid ends.
 -- Assumes nothing.
-use Rattle.std.specs.Prelude.{cond, List, ◌++◌, ℕ, leb, length, drop}
+use Rattle.std.specs.Prelude
+use Rattle.std.specs.Prelude.{Ok, Err, cond, [], List, ◌++◌, ℕ, leb, length, drop}
 use Rattle.block_code.specs.Nearest.{differ}
 use Rattle.block_code.specs.Nearest as code
 use Rattle.symbol.specs.Shapes as shape
-use Rattle.walk.specs.declared.Layout.{Layout}
-use Rattle.walk.specs.declared.Outcome.{Outcome}
-use Rattle.walk.specs.declared.Outcome.TheVariants.{Refused, Unplaced, Unlawful, Uncorrected, Faulty, Says}
-use Rattle.walk.specs.Walk.{Walk, number_of, walk_of}
+use Rattle.walk.specs.Walk.{Layout, Outcome, Walk, refusal_number, walk_of}
 use Rattle.decoder.specs.declared.Decoded.{Decoded}
+use Rattle.decoder.specs.declared.Refusal.{Refusal}
+use Rattle.decoder.specs.declared.Refusal.TheVariants.{Grid, Room}
 
 pub record Result : Type 0 where
   pub answer : Decoded
@@ -19,6 +19,12 @@ pub record Result : Type 0 where
 abbrev pub refused : ℕ → List ℕ → Result
 refused k buffer =
     record { answer = record { number = k; length = 0; shape = 0; position = 0; unread = 0; wrong = 0 }; message = buffer }
+
+-- the answer that a message, or a refusal, is
+abbrev pub answered : Prelude.Result Decoded Refusal → Decoded
+answered (Ok decoded) = decoded
+answered (Err (Grid refusal)) = (refused (refusal_number refusal) []).answer
+answered (Err Room) = (refused 21 []).answer
 
 module _ (buffer : List ℕ) (w : Walk) where
   -- a message of n bytes: "The first bytes of the message buffer are the message; the rest keep their bytes". The two counts: "words with an
@@ -40,12 +46,8 @@ module _ (buffer : List ℕ) (w : Walk) where
 
   -- by the number of each outcome; 21: "message buffer too short"
   abbrev pub answer_by : Outcome → Result
-  answer_by (Says l n) = cond (leb n (length buffer)) (delivered l n) (refused 21 buffer)
-  answer_by (Refused k) = refused (number_of (Refused k)) buffer
-  answer_by (Unplaced best positions) = refused (number_of (Unplaced best positions)) buffer
-  answer_by (Unlawful failed) = refused (number_of (Unlawful failed)) buffer
-  answer_by (Uncorrected e K) = refused (number_of (Uncorrected e K)) buffer
-  answer_by (Faulty k bit) = refused (number_of (Faulty k bit)) buffer
+  answer_by (Ok m) = cond (leb m.bytes (length buffer)) (delivered m.layout m.bytes) (refused 21 buffer)
+  answer_by (Err refusal) = refused (refusal_number refusal) buffer
 
   abbrev pub answer_of : Result
   answer_of = answer_by w.outcome

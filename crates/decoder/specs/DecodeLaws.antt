@@ -1,6 +1,6 @@
 -- The decoder's answer by how the walk ends: a refusal's number, or the message if it has room.
 -- Assumes nothing.
-use Rattle.std.specs.Prelude.{◌≡◌, refl, ◌≢◌, Bool, List, ◌++◌}
+use Rattle.std.specs.Prelude.{◌≡◌, Ok, Err, refl, ◌≢◌, Bool, List, ◌++◌}
 use Rattle.std.proofs.Math.Path.{ap, ap₂}
 use Rattle.std.proofs.Common.{◌∙◌, le-leb}
 use Rattle.std.proofs.Math.Bool.{cond}
@@ -12,34 +12,27 @@ use Rattle.block_code.specs.Nearest as code
 use Rattle.stream.specs.Items as items
 use Rattle.symbol.specs.Shapes as shape
 use Rattle.recovery.specs.Stages.{block_words_in, unread_words, wrong_words}
-use Rattle.walk.specs.declared.Layout.{Layout}
-use Rattle.walk.specs.declared.Outcome.{Outcome}
-use Rattle.walk.specs.declared.Outcome.TheVariants.{Refused, Unplaced, Unlawful, Uncorrected, Faulty, Says}
 use Rattle.walk.specs.Saying.{SaysMessage}
-use Rattle.walk.specs.Walk.{Walk, number_of, stream_walk, layout_of, unread_in}
+use Rattle.walk.specs.Walk.{Layout, Outcome, Walk, says, number_of, stream_walk, layout_of, unread_in}
 use Rattle.walk.specs.Ends.{Message, message-walk}
 use Rattle.walk.specs.BlockIn.{unread-in, wrong-in}
 use Rattle.decoder.specs.Decode.{Result, refused, delivered, answer_by, answer_of, decode_of}
 
 -- an outcome that says no message is refused by its number
-pub no-message : (buffer : List ℕ) (w : Walk) (o : Outcome) → ((l : Layout) (n : ℕ) → o ≢ Says l n)
+pub no-message : (buffer : List ℕ) (w : Walk) (o : Outcome) → ((l : Layout) (n : ℕ) → o ≢ says l n)
     → answer_by buffer w o ≡ refused (number_of o) buffer
-no-message buffer w (Says l n) h = absurd (h l n refl)
-no-message buffer w (Refused k) h = refl
-no-message buffer w (Unplaced best positions) h = refl
-no-message buffer w (Unlawful failed) h = refl
-no-message buffer w (Uncorrected e K) h = refl
-no-message buffer w (Faulty k bit) h = refl
+no-message buffer w (Ok m) h = absurd (h m.layout m.bytes refl)
+no-message buffer w (Err refusal) h = refl
 
 -- the room decides between the message and 21
 module _ (buffer : List ℕ) (l : Layout) (received unread found : List ℕ) {r : items.Reading} {n : ℕ} (s : SaysMessage r n) where
   abbrev said : Walk
-  said = record { outcome = Says l n; received = received; unread = unread; found = found; text = s.text }
+  said = record { outcome = says l n; received = received; unread = unread; found = found; text = s.text }
 
   said-is : stream_walk l received unread found r ≡ said
   said-is =
       ap (stream_walk l received unread found) s.is
-      ∙ ap (λ k. record { outcome = Says l k; received = received; unread = unread; found = found; text = s.text }) s.size
+      ∙ ap (λ k. record { outcome = says l k; received = received; unread = unread; found = found; text = s.text }) s.size
 
   pub deliver-short : length buffer < n → answer_of buffer (stream_walk l received unread found r) ≡ refused 21 buffer
   deliver-short h =

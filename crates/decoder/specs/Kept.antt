@@ -1,10 +1,8 @@
 -- What the decoder's answer says of the message buffer, whatever the grid.
 -- Assumes nothing.
-use Rattle.std.specs.Prelude.{◌≡◌, refl, Bool, true, false, cond, List, ℕ, ◌≤◌, leb, length}
+use Rattle.std.specs.Prelude.{◌≡◌, Ok, Err, refl, Bool, true, false, cond, List, ℕ, ◌≤◌, leb, length}
 use Rattle.std.proofs.Common.{arith, leb-true}
-use Rattle.walk.specs.declared.Outcome.{Outcome}
-use Rattle.walk.specs.declared.Outcome.TheVariants.{Refused, Unplaced, Unlawful, Uncorrected, Faulty, Says}
-use Rattle.walk.specs.Walk.{Walk, walk_of}
+use Rattle.walk.specs.Walk.{Outcome, Walk, walk_of}
 use Rattle.decoder.specs.Decode.{Result, refused, answer_by, decode_of}
 
 -- the message fits its buffer, and a refusal leaves the buffer as it was
@@ -20,13 +18,9 @@ pick true f k = f refl
 pick false f k = k
 
 answer-kept : (buffer : List ℕ) (w : Walk) (o : Outcome) → Kept buffer (answer_by buffer w o)
-answer-kept buffer w (Says l n) =
-    pick (leb n (length buffer)) (λ e. record { fits = leb-true _ _ e; kept = λ n. absurd (n refl) }) (refused-kept 21 buffer)
-answer-kept buffer w (Refused k) = refused-kept _ buffer
-answer-kept buffer w (Unplaced best positions) = refused-kept _ buffer
-answer-kept buffer w (Unlawful failed) = refused-kept _ buffer
-answer-kept buffer w (Uncorrected e K) = refused-kept _ buffer
-answer-kept buffer w (Faulty k bit) = refused-kept _ buffer
+answer-kept buffer w (Ok m) =
+    pick (leb m.bytes (length buffer)) (λ e. record { fits = leb-true _ _ e; kept = λ n. absurd (n refl) }) (refused-kept 21 buffer)
+answer-kept buffer w (Err refusal) = refused-kept _ buffer
 
 pub decode-kept : (g buffer : List ℕ) (n : ℕ) → Kept buffer (decode_of g n buffer)
 unfolding decode_of

@@ -1,15 +1,14 @@
-// From the walk's outcome to the answer: the room for the message, the counts, the message written.
-ghost use Rattle.std.specs.Prelude.{◌≡◌, [], ◌≤◌, ◌<◌, length};
-ghost use Rattle.symbol.specs.Shapes as shape;
-ghost use Rattle.walk.specs.Walk.{number_of, reading_of, stream_walk};
-ghost use Rattle.walk.specs.Rooms.{Rooms};
+// From what the walk tells to the answer: the room for the message, the counts, the message written.
+ghost use Rattle.std.specs.Prelude.{◌≡◌, [], ◌<◌, length};
+ghost use Rattle.symbol.specs.Shapes.{words as words_in};
+ghost use Rattle.walk.specs.Walk.{reading_of, stream_walk};
+ghost use Rattle.walk.specs.Told.{plain_layout};
 ghost use Rattle.walk.specs.Saying.{SaysMessage};
 ghost use Rattle.decoder.specs.Decode as spec;
 
-use crate::Decoded;
+use crate::{Decoded, Refusal};
 use stream_reader::message as stream_message;
-use symbol::shapes;
-use walk::{Layout, Outcome, counts, grid};
+use walk::{Buffers, Told, counts, grid};
 
 pub fn refused(number: u32) -> Decoded
     ensures { result ≡ (spec.refused number []).answer }
@@ -24,93 +23,60 @@ pub fn refused(number: u32) -> Decoded
     }
 }
 
-// The shape's number.
-fn shape_of(full: bool, layers: usize) -> u32
-    requires { layers ≤ 32 }
-    ensures { result ≡ shape.number_of full layers }
-{
-    if full {
-        return (layers + 4) as u32;
-    }
-    layers as u32
-}
-
-// The number of an outcome; 0 for a message, which may still lack room.
-fn number_of(outcome: Outcome) -> u32
-    ensures { result ≡ number_of outcome }
-{
-    match outcome {
-        Outcome::Refused(number) => number,
-        Outcome::Unplaced(_, _) => 14,
-        Outcome::Unlawful(_) => 16,
-        Outcome::Uncorrected(_, _) => 17,
-        Outcome::Faulty(number, _) => number,
-        Outcome::Says(_, _) => 0,
-    }
-}
-
 // The answer for a message of so many bytes, which is written if it has room.
 fn deliver(
-    layout: Layout,
-    bytes: usize,
+    told: Told,
     received: &[u16],
     unread: &[u8],
     found: &[u16],
     message: &mut [u8],
-) -> Decoded
-    requires shaped_1 { shape.Shaped layout.full layout.layers }
-    requires shaped_2 { (layout.position < 8) × (layout.data_words ≤ length found.now) × (length found.now ≤ 1664) }
+) -> Result<Decoded, Refusal>
+    requires position_below { told.layout.position < 8 }
+    requires found_len { length found.now ≡ words_in told.layout.shape.full told.layout.shape.layers }
     requires received_len { (length received.now ≡ length found.now) × (length unread.now ≡ length found.now) }
-    requires says_message { SaysMessage (reading_of layout found.now) bytes }
-    ensures value { result ≡ (spec.answer_of message.old (stream_walk layout received.now unread.now
-        found.now (reading_of layout found.now))).answer }
-    ensures message_after { message.new ≡ (spec.answer_of message.old (stream_walk layout received.now
-        unread.now found.now (reading_of layout found.now))).message }
+    requires says_message { SaysMessage (reading_of (plain_layout told.layout) found.now) told.bytes }
+    ensures value { spec.answered result ≡ (spec.answer_of message.old (stream_walk (plain_layout told.layout) received.now unread.now
+        found.now (reading_of (plain_layout told.layout) found.now))).answer }
+    ensures message_after { message.new ≡ (spec.answer_of message.old (stream_walk (plain_layout told.layout) received.now
+        unread.now found.now (reading_of (plain_layout told.layout) found.now))).message }
 {
-    if message.len() < bytes {
-        return refused(21);
+    if message.len() < told.bytes {
+        return Err(Refusal::Room);
     }
-    let layers = layout.layers;
-    let data_words = layout.data_words;
+    let shape = told.layout.shape;
+    let data_words = told.layout.data_words;
     let words = received.len();
     let unread_words = counts::count_marked(words, unread);
     let wrong_words = counts::count_wrong(words, received, unread, found);
-    let size = shapes::word_size_of(layers);
+    let size = shape.word_size();
     stream_message::write_message(&found[..data_words], size, message);
-    Decoded {
+    Ok(Decoded {
         number: 0,
-        length: bytes as u32,
-        shape: shape_of(layout.full, layers),
-        position: layout.position as u32,
+        length: told.bytes as u32,
+        shape: shape.number() as u32,
+        position: told.layout.position as u32,
         unread: unread_words,
         wrong: wrong_words,
-    }
+    })
 }
 
-// The walk and then the delivery, with room for the words of any shape.
+// The walk and then the delivery.
 pub fn decode_in(
     n: usize,
     grid: &[u8],
-    received: &mut [u16],
-    unread: &mut [u8],
-    found: &mut [u16],
+    buffers: &mut Buffers,
     message: &mut [u8],
-) -> Decoded
-    requires { Rooms received.old unread.old found.old }
-    ensures value { result ≡ (spec.decode_of grid.now n message.old).answer }
+) -> Result<Decoded, Refusal>
+    ensures value { spec.answered result ≡ (spec.decode_of grid.now n message.old).answer }
     ensures message_after { message.new ≡ (spec.decode_of grid.now n message.old).message }
 {
-    let outcome = grid::walk(n, grid, received, unread, found);
-    let Outcome::Says(layout, bytes) = outcome else {
-        return refused(number_of(outcome));
-    };
-    let count = shapes::words_of(layout.full, layout.layers);
+    let told = grid::walk(n, grid, buffers)?;
+    let count = told.layout.shape.words();
     deliver(
-        layout,
-        bytes,
-        &received[..count],
-        &unread[..count],
-        &found[..count],
+        told,
+        &buffers.received[..count],
+        &buffers.unread[..count],
+        &buffers.found[..count],
         message,
     )
 }

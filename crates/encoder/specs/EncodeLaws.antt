@@ -12,6 +12,7 @@ use Rattle.symbol.specs.ShapeTable.{every_shape, at-shape}
 use Rattle.encoder.specs.declared.Encoded.{Encoded}
 use Rattle.encoder.specs.Plan.{refused, listed, planned, plan_of}
 use Rattle.encoder.specs.Encode.{result, drawn_message, encode_of}
+use Rattle.encoder.specs.PlanLaws.{number-back}
 use Rattle.encoder.specs.Fitting.{Fitting, plan-fits, fitting}
 
 module _ (message : List ℕ) (percent : ℕ) (grid : List ℕ) where
@@ -38,14 +39,6 @@ pub record Answered (message : List ℕ) (e : Encoded) : Type 0 where
   pub checks-are : e.check_words ≡ words (is_full e.shape) (layers e.shape) - e.data_words
   pub number_is : number_of (is_full e.shape) (layers e.shape) ≡ e.shape
   pub large : is_full e.shape ≡ true → 4 ≤ layers e.shape
-
-number-back : (s : ℕ) → number_of (is_full s) (layers s) ≡ s
-unfolding is_full layers number_of
-number-back s = go (ltb 4 s) refl
-  where
-    go : (b : Bool) → ltb 4 s ≡ b → number_of b (cond b (s - 4) s) ≡ s
-    go true e = omega (arith, ltb-true 4 s e)
-    go false e = refl
 
 -- F1 to F3 are not listed
 listed-large : (i : ℕ) → is_full (listed i) ≡ true → 4 ≤ layers (listed i)

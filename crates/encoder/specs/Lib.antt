@@ -1,4 +1,5 @@
 pub mod Plan
+pub mod Answer
 pub mod PlanLaws
 pub mod ModeMessage
 pub mod Encode

@@ -11,13 +11,9 @@ use Rattle.stream.specs.Stream.{bits_of}
 use Rattle.stream.specs.Stuffing.{stuff}
 use Rattle.stream.proofs.PartLaws.{words-of-message}
 use Rattle.stream_writer.specs.Encoding.{words_needed}
-use Rattle.symbol.specs.Shapes.{side, bits, word_size, words, most_words, is_full, layers, bits_most, word-size-range}
-use Rattle.encoder.specs.declared.Encoded.{Encoded}
+use Rattle.symbol.specs.Shapes.{side, bits, word_size, words, most_words, is_full, layers, number_of, bits_most, word-size-range}
+use Rattle.encoder.specs.Answer.{chosen}
 use Rattle.encoder.specs.Plan.{data_words_of, least_check, fits, listed, fits_listed, planned}
-
--- the answer for D words in a shape
-abbrev pub chosen : ℕ → Bool → ℕ → ℕ → Encoded
-chosen s f L D = record { number = 0; shape = s; side = side f L; data_words = D; check_words = words f L - D }
 
 -- words of more than 19,968 bits are more than any shape has
 too_many : (f : Bool) (L D : ℕ) → L ≤ 32 → 19968 < D * word_size L → words f L < D
@@ -83,6 +79,11 @@ unfolding side
 sides-most false L h = omega arith
 sides-most true L h = omega arith
 
+pub number-most : (f : Bool) (L : ℕ) → L ≤ 32 → number_of f L ≤ 36
+unfolding number_of
+number-most false L h = omega arith
+number-most true L h = omega arith
+
 -- small enough that no sum runs over
 pub check-most : (percent n : ℕ) → percent ≤ 95 → n ≤ 3328 → percent * n ≤ 316160
 check-most percent n h k = le_trans (mul-le-mul {n₁ = percent} {m₁ = n} {n₂ = 95} {m₂ = 3328} h k) (omega arith)
@@ -115,37 +116,40 @@ layers-most s h = go (ltb 4 s) refl
     go true e = omega arith
     go false e = omega (arith, ltb-false 4 s e)
 
--- what the search knows of the shape that it tries: place i of the list, number s, L layers, words of B bits, w of them
-pub record Tried (message : List ℕ) (i s L B w : ℕ) : Type 0 where
-  pub number : s ≡ listed i
-  pub shaped : L ≡ layers s
-  pub size : B ≡ word_size L
-  pub count : w ≡ words_needed B message
+pub number-back : (s : ℕ) → number_of (is_full s) (layers s) ≡ s
+unfolding is_full layers number_of
+number-back s = go (ltb 4 s) refl
+  where
+    go : (b : Bool) → ltb 4 s ≡ b → number_of b (cond b (s - 4) s) ≡ s
+    go true e = omega (arith, ltb-true 4 s e)
+    go false e = refl
 
-module _ {message : List ℕ} {i s L B w : ℕ} (t : Tried message i s L B w) (h : i < 33) where
-  pub tried-layers : (s ≤ 36) × (L ≤ 32)
-  tried-layers =
-      let b : s ≤ 36 = omega (arith, t.number, listed-bounds i h) in
-      (b, omega (arith, t.shaped, layers-most s b))
+-- what the search knows of the shape that it tries: place i of the list, its family, L layers, w words
+pub record Tried (message : List ℕ) (i : ℕ) (f : Bool) (L w : ℕ) : Type 0 where
+  pub family : f ≡ is_full (listed i)
+  pub shaped : L ≡ layers (listed i)
+  pub count : w ≡ words_needed (word_size L) message
+
+module _ {message : List ℕ} {i : ℕ} {f : Bool} {L w : ℕ} (t : Tried message i f L w) (h : i < 33) where
+  pub tried-layers : (listed i ≤ 36) × (L ≤ 32)
+  tried-layers = let b = (listed-bounds i h).1 in (b, omega (arith, t.shaped, layers-most (listed i) b))
 
   words_are : w ≡ words_needed (word_size L) message
-  words_are = t.count ∙ ap (λ b. words_needed b message) t.size
+  words_are = t.count
 
   -- its test is the definition's
-  pub tried-fits : (percent : ℕ) → Bytes message → fits percent (ltb 4 s) L w ≡ fits_listed message percent i
-  unfolding fits_listed is_full
+  pub tried-fits : (percent : ℕ) → Bytes message → fits percent f L w ≡ fits_listed message percent i
+  unfolding fits_listed
   tried-fits percent x =
-      ap (fits percent (ltb 4 s) L) words_are
-      ∙ needed-fits message x percent (ltb 4 s) L tried-layers.1
-      ∙ ap (λ l. fits percent (ltb 4 s) l (length (data_words_of message l))) t.shaped
-      ∙ ap (λ n. fits percent (ltb 4 n) (layers n) (length (data_words_of message (layers n)))) t.number
+      ap (fits percent f L) words_are
+      ∙ needed-fits message x percent f L tried-layers.1
+      ∙ ap₂ (λ f l. fits percent f l (length (data_words_of message l))) t.family t.shaped
 
   -- and so is its answer
-  pub tried-answer : (percent : ℕ) → fits percent (ltb 4 s) L w ≡ true → chosen s (ltb 4 s) L w ≡ planned message (listed i)
-  unfolding planned is_full
+  pub tried-answer : (percent : ℕ) → fits percent f L w ≡ true → chosen (number_of f L) f L w ≡ planned message (listed i)
+  unfolding planned
   tried-answer percent e =
-      ap (chosen s (ltb 4 s) L)
-      (words_are
-      ∙ needed-is message percent (ltb 4 s) L tried-layers.1 (sym (ap (fits percent (ltb 4 s) L) words_are) ∙ e))
-      ∙ ap (λ l. chosen s (ltb 4 s) l (length (data_words_of message l))) t.shaped
-      ∙ ap (λ n. chosen n (ltb 4 n) (layers n) (length (data_words_of message (layers n)))) t.number
+      ap (chosen (number_of f L) f L)
+      (t.count ∙ needed-is message percent f L tried-layers.1 (sym (ap (fits percent f L) t.count) ∙ e))
+      ∙ ap₂ (λ f l. chosen (number_of f l) f l (length (data_words_of message l))) t.family t.shaped
+      ∙ ap (λ n. chosen n (is_full (listed i)) (layers (listed i)) (length (data_words_of message (layers (listed i))))) (number-back (listed i))

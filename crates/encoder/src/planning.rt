@@ -1,20 +1,22 @@
 // The first listed shape that a message fits.
 ghost use Rattle.std.specs.Prelude.{◌≡◌, ◌-◌, ◌≤◌, ◌<◌};
 ghost use Rattle.list_laws.specs.Search.{first_from};
-ghost use Rattle.stream_writer.specs.Encoding.{words_needed};
 ghost use Rattle.symbol.specs.Shapes as shapes;
 ghost use Rattle.encoder.specs.Plan as spec;
-ghost use Rattle.encoder.specs.PlanLaws.{chosen};
+ghost use Rattle.encoder.specs.Answer.{encoded};
 
-use crate::Encoded;
+use crate::chosen::Choice;
+use crate::{Encoded, Refusal};
 use stream_writer::encoding;
-use symbol::shapes;
+use symbol::shapes::Shape;
 
+// The answer that a refusal's number is.
+#[tactic(auto, unfolding(crate::specs::Plan::refused))]
 pub fn refused(number: u32) -> Encoded
     ensures { result ≡ spec.refused number }
 {
     Encoded {
-        number: number,
+        number,
         shape: 0,
         side: 0,
         data_words: 0,
@@ -22,44 +24,22 @@ pub fn refused(number: u32) -> Encoded
     }
 }
 
-// The words of a message in words of a size. They are counted anew only where the size changes along the list.
-#[derive(Clone, Copy)]
-pub struct Counted {
-    pub size: usize,
-    pub words: usize,
-}
-
-fn count_at(message: &[u8], size: usize, before: Counted) -> Counted
-    requires fact_1 { (2 ≤ size) × (size ≤ 12) }
-    requires fact_2 { before.words ≡ words_needed before.size message.now }
-    ensures { (result.size ≡ size) × (result.words ≡ words_needed size message.now) }
-{
-    if size == before.size {
-        return before;
-    }
-    Counted {
-        size: size,
-        words: encoding::count_words(message, size),
-    }
-}
-
-// The shape's number at place i of the list: C1 to C4, F4 to F32.
-fn listed(i: usize) -> usize
+// The shape at place i of the list: C1 to C4, F4 to F32.
+#[tactic(auto, unfolding(crate::specs::Plan::listed))]
+fn listed(i: usize) -> Shape
     requires { i < 33 }
-    ensures { result ≡ spec.listed i }
+    ensures { (result.full ≡ shapes.is_full (spec.listed i)) × (result.layers ≡ shapes.layers (spec.listed i)) }
 {
-    if i < 4 {
-        return i + 1;
-    }
-    i + 4
+    let number = if i < 4 { i + 1 } else { i + 4 };
+    Shape::numbered(number)
 }
 
 // Whether so many data words leave K at least ceil(percent·n/100) + 3, and keep the limit that the mode message sets.
-fn fits(percent: u32, full: bool, layers: usize, data_words: usize) -> bool
-    requires { (percent ≤ 95) × (layers ≤ 32) }
-    ensures { result ≡ spec.fits percent full layers data_words }
+fn fits(percent: u32, shape: Shape, data_words: usize) -> bool
+    requires { percent ≤ 95 }
+    ensures { result ≡ spec.fits percent shape.full shape.layers data_words }
 {
-    let n = shapes::words_of(full, layers);
+    let n = shape.words();
     let check = (percent as usize * n + 99) / 100 + 3;
     if n < data_words {
         return false;
@@ -67,45 +47,44 @@ fn fits(percent: u32, full: bool, layers: usize, data_words: usize) -> bool
     if n - data_words < check {
         return false;
     }
-    if full {
+    if shape.full {
         return data_words <= 2048;
     }
     data_words <= 64
 }
 
-// The answer for a message that fits.
-fn planned(number: usize, full: bool, layers: usize, data_words: usize) -> Encoded
-    requires { (number ≤ 36) × (layers ≤ 32) × (data_words ≤ shapes.words full layers) }
-    ensures { result ≡ chosen number full layers data_words }
+// The shapes are tried in the order of the list; words are counted anew only where their size changes along it.
+pub fn first_fit(message: &[u8], percent: u32) -> Result<Choice, Refusal>
+    requires { percent ≤ 95 }
+    ensures { encoded result ≡ spec.planned_for message.now (first_from (spec.fits_listed message.now percent) 0 33) }
 {
-    Encoded {
-        number: 0,
-        shape: number as u32,
-        side: shapes::side_of(full, layers) as u32,
-        data_words: data_words as u32,
-        check_words: (shapes::words_of(full, layers) - data_words) as u32,
+    let mut size = 6;
+    let mut words = encoding::count_words(message, size);
+    for i in 0..33 {
+        let shape = listed(i);
+        if shape.word_size() != size {
+            size = shape.word_size();
+            words = encoding::count_words(message, size);
+        }
+        if fits(percent, shape, words) {
+            return Ok(Choice {
+                shape,
+                data_words: words,
+            });
+        }
     }
+    Err(Refusal::TooLong)
 }
 
-// The shapes are tried in the order of the list.
-pub fn first_fit(message: &[u8], percent: u32) -> Encoded
-    requires { percent ≤ 95 }
-    ensures { result ≡ spec.planned_for message.now (first_from (spec.fits_listed message.now percent) 0 33) }
+// The shape of a message, or why it has none: it is empty, the percentage is outside 5 to 95, no shape fits.
+pub fn choose(message: &[u8], percent: u32) -> Result<Choice, Refusal>
+    ensures { encoded result ≡ spec.plan_of message.now percent }
 {
-    let mut counted = Counted {
-        size: 6,
-        words: encoding::count_words(message, 6),
-    };
-    let mut i = 0;
-    while i < 33 {
-        let number = listed(i);
-        let full = 4 < number;
-        let layers = shapes::layers_of(number);
-        counted = count_at(message, shapes::word_size_of(layers), counted);
-        if fits(percent, full, layers, counted.words) {
-            return planned(number, full, layers, counted.words);
-        }
-        i += 1;
+    if message.len() == 0 {
+        return Err(Refusal::Empty);
     }
-    refused(3)
+    if percent < 5 || 95 < percent {
+        return Err(Refusal::Percentage);
+    }
+    first_fit(message, percent)
 }

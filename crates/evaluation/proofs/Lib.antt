@@ -6,3 +6,5 @@ pub mod Classes
 pub mod Adding
 pub mod Direct
 pub mod Clearing
+mod Dividing
+pub mod Parts

@@ -1,6 +1,6 @@
 -- A polynomial at many powers of 2, step by step: what each step of folding leaves, as equations over the word field.
 -- Assumes nothing.
-use Rattle.std.specs.Prelude.{◌≡◌, List, ℕ, ◌+◌, ◌*◌, ◌^◌, ◌≤◌, ◌<◌, length, get_or}
+use Rattle.std.specs.Prelude.{◌≡◌, List, [], ◌∷◌, ℕ, ◌+◌, ◌*◌, ◌/◌, ◌^◌, ◌≤◌, ◌<◌, length, get_or}
 use Rattle.algebra.specs.Sums.{pow}
 use Rattle.algebra.specs.KeyEquation.{eval}
 use Rattle.algebra.specs.Folding as folding
@@ -45,6 +45,12 @@ module _ (s : WordSize) where
     pub m-pos : 0 < m
     pub per_pos : 0 < per
     pub part-pos : 0 < part
+
+  -- the order of 2, divided further by these factors in turn; in the end there is more than one class
+  unfoldable pub Divides : ℕ → ℕ → ℕ → List ℕ → Type 0
+  Divides m per part [] = Divided m per part × 1 < m
+  Divides m per part (next ∷ factors) =
+      Divided m per part × (next * (part / next) ≡ part) × Divides (m * per) next (part / next) factors
 
   -- coefficient r of a class: the polynomial of every part-th word from at + r on, `chunks` of them, at 2^e
   abbrev pub chunked : ℕ → ℕ → ℕ → List ℕ → ℕ → ℕ → (word_field s).C

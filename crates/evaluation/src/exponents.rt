@@ -1,78 +1,51 @@
 // Values by exponents: where a word is not 0 its share of each value is a power of 2, and no product is formed.
 ghost use Rattle.std.specs.Prelude.{◌≡◌, ◌+◌, ◌*◌, ◌≤◌, ◌<◌, ◌^◌, length};
 ghost use Rattle.finite_field.specs.Field.{size_of, bits, Word, product, power};
-ghost use Rattle.finite_field.specs.Tables.{Tables};
 ghost use Rattle.evaluation.specs.Words.{Words};
 ghost use Rattle.evaluation.specs.Evaluation as steps;
 
-use crate::Points;
+use field::{Field, turned};
 
-// s_j ← s_j + 2^(start + k · j), j < count: the exponent goes on by k and turns over.
-pub fn add_powers(
-    size: u32,
-    powers: &[u16],
-    logs: &[u16],
-    start: usize,
-    k: usize,
-    count: usize,
-    s: &mut [u16],
-)
-    requires tables_1 { Tables (size_of size) powers.now logs.now }
-    requires tables_2 { start < 2 ^ bits (size_of size) }
-    requires tables_3 { k < 2 ^ bits (size_of size) }
-    requires words_1 { Words (size_of size) s.old }
-    requires words_2 { count ≤ length s.old }
-    ensures { steps.PowersAdded (size_of size) start k count s.old s.new }
+// s_j ← s_j + 2^(start + k · j): the exponent goes on by k and turns over.
+pub fn add_powers(field: &Field, start: usize, k: usize, s: &mut [u16])
+    requires start_bound { start < 2 ^ bits (size_of field.now.size) }
+    requires step_bound { k < 2 ^ bits (size_of field.now.size) }
+    requires words { Words (size_of field.now.size) s.old }
+    ensures { steps.PowersAdded (size_of field.now.size) start k (length s.old) s.old s.new }
 {
-    let words = powers.len();
+    let field = *field;
+    let words = field.powers.len();
     let mut e = start;
-    let mut j = 0;
-    while j < count {
-        s[j] = s[j] ^ powers[e];
-        e = field::turned(size, words, e, k);
-        j += 1;
+    for j in 0..s.len() {
+        s[j] ^= field.powers[e];
+        e = turned(field.size, words, e, k);
     }
 }
 
 // The exponent of w · 2^k, where w is not 0.
-pub fn exponent(size: u32, powers: &[u16], logs: &[u16], w: u16, k: usize) -> usize
-    requires fact_1 { Tables (size_of size) powers.now logs.now }
-    requires fact_2 { Word (size_of size) w }
-    requires fact_3 { 0 < w }
-    requires fact_4 { k < 2 ^ bits (size_of size) }
-    ensures fact_1 { result < 2 ^ bits (size_of size) }
-    ensures fact_2 { power (size_of size) result ≡ product (size_of size) w (power (size_of size) k) }
+pub fn exponent(field: &Field, w: u16, k: usize) -> usize
+    requires word { Word (size_of field.now.size) w }
+    requires positive { 0 < w }
+    requires k_bound { k < 2 ^ bits (size_of field.now.size) }
+    ensures bound { result < 2 ^ bits (size_of field.now.size) }
+    ensures power { power (size_of field.now.size) result ≡ product (size_of field.now.size) w (power (size_of field.now.size) k) }
 {
-    let i = w as usize;
-    field::turned(size, powers.len(), field::wide(logs[i]), k)
+    let e = usize::from(field.logs[usize::from(w)]);
+    turned(field.size, field.powers.len(), e, k)
 }
 
 // What `evaluate` promises, word by word. The values come as zeros.
-pub fn direct(
-    size: u32,
-    powers: &[u16],
-    logs: &[u16],
-    n: usize,
-    from: &[u16],
-    points: Points,
-    out: &mut [u16],
-)
-    requires fact_1 { Tables (size_of size) powers.now logs.now }
-    requires fact_2 { steps.Given (size_of size) n from.now }
-    requires fact_3 { steps.Asked (size_of size) points.first points.count out.old }
-    requires fact_4 { steps.Cleared points.count out.old }
-    ensures { steps.Valued (size_of size) points.first (steps.value_at (size_of size) n from.now) points.count
+pub fn direct(field: &Field, from: &[u16], first: usize, out: &mut [u16])
+    requires given { steps.Given (size_of field.now.size) (length from.now) from.now }
+    requires asked { steps.Asked (size_of field.now.size) first (length out.old) out.old }
+    requires cleared { steps.Cleared (length out.old) out.old }
+    ensures { steps.Valued (size_of field.now.size) first (steps.value_at (size_of field.now.size) (length from.now) from.now) (length out.old)
         out.old out.new }
 {
-    let first = points.first;
-    let count = points.count;
-    let mut k = 0;
-    while k < n {
-        let w = from[k];
-        if 0 < w {
-            let start = exponent(size, powers, logs, w, first * k);
-            add_powers(size, powers, logs, start, k, count, out);
+    for (k, w) in from.iter().enumerate() {
+        if 0 < *w {
+            let start = exponent(field, *w, first * k);
+            add_powers(field, start, k, out);
         }
-        k += 1;
     }
 }

@@ -1,164 +1,80 @@
-// A polynomial folded down and evaluated, for each number of words that pays: 4,095 = 7 · 5 · 3 · 3 · 13, 1,023 = 11 · 3 · 31,
-// 255 = 5 · 3 · 17. The work arrays are made here, so that what does not fold does not clear them.
-ghost use Rattle.std.specs.Prelude.{◌≡◌, ◌^◌};
+// A polynomial folded down and evaluated, where that pays: 4,095 = 7 · 5 · 3 · 3 · 13, 1,023 = 11 · 3 · 31, 255 = 5 · 3 · 17. The work
+// arrays are made here, so that what does not fold does not clear them.
+ghost use Rattle.std.specs.Prelude.{◌≡◌, ℕ, ◌*◌, ◌-◌, ◌/◌, ◌≤◌, ◌<◌, ◌^◌, length};
 ghost use Rattle.finite_field.specs.Field.{size_of, bits};
-ghost use Rattle.finite_field.specs.Tables.{Tables};
+ghost use Rattle.finite_field.specs.Instance.{word_field};
+ghost use Rattle.evaluation.specs.Words.{Words};
 ghost use Rattle.evaluation.specs.Evaluation as steps;
 
-use crate::folds::Folding;
-use crate::{Points, buffers, folds, zeros};
+use crate::folds::{self, Folding};
+use crate::zeros::zeros;
+use field::Field;
 
-// What `evaluate` promises, where there are 4,096 words. The values come as zeros.
-pub fn folded_12(
-    size: u32,
-    powers: &[u16],
-    logs: &[u16],
+// One folding and those by the further factors, and then the values. The two work slices change places at each.
+fn fold_by(
+    field: &Field,
+    folding: Folding,
+    factors: &[usize],
     n: usize,
-    from: &[u16],
-    points: Points,
+    from: &mut [u16],
+    to: &mut [u16],
+    first: usize,
     out: &mut [u16],
 )
-    requires fact_1 { Tables (size_of size) powers.now logs.now }
-    requires fact_2 { steps.Given (size_of size) n from.now }
-    requires fact_3 { steps.Asked (size_of size) points.first points.count out.old }
-    requires fact_4 { steps.Cleared points.count out.old }
-    requires fact_5 { 2 ^ bits (size_of size) ≡ 4096 }
-    ensures { steps.Valued (size_of size) points.first (steps.value_at (size_of size) n from.now) points.count
-        out.old out.new }
+    requires divided { steps.Divides (size_of field.now.size) folding.classes folding.per folding.part factors.now }
+    requires folded { (v : ℕ → (word_field (size_of field.now.size)).C)
+        × steps.Folded (size_of field.now.size) folding.classes (folding.per * folding.part) n v from.old }
+    requires words { Words (size_of field.now.size) to.old }
+    requires long_1 { 2 ^ bits (size_of field.now.size) ≤ length from.old }
+    requires long_2 { 2 ^ bits (size_of field.now.size) ≤ length to.old }
+    requires n_bound { n < 65536 }
+    requires asked { steps.Asked (size_of field.now.size) first (length out.old) out.old }
+    requires cleared { steps.Cleared (length out.old) out.old }
+    ensures { steps.Finished (size_of field.now.size) first folding.classes (folding.per * folding.part) n from.old
+        (length out.old) out.old out.new }
 {
-    let mut a = zeros::zeros_4096();
-    let mut b = zeros::zeros_4096();
-    let last = Folding {
-        classes: 105,
-        per: 3,
-        part: 13,
-    };
-    buffers::copy(from, n, &mut a);
-    folds::fold(
-        size,
-        powers,
-        logs,
-        Folding {
-            classes: 1,
-            per: 7,
-            part: 585,
-        },
-        n,
-        &a,
-        &mut b,
-    );
-    folds::fold(
-        size,
-        powers,
-        logs,
-        Folding {
-            classes: 7,
-            per: 5,
-            part: 117,
-        },
-        n,
-        &b,
-        &mut a,
-    );
-    folds::fold(
-        size,
-        powers,
-        logs,
-        Folding {
-            classes: 35,
-            per: 3,
-            part: 39,
-        },
-        n,
-        &a,
-        &mut b,
-    );
-    folds::fold(size, powers, logs, last, n, &b, &mut a);
-    folds::finish(size, powers, logs, last, n, &a, points, out);
+    folds::fold(field, folding, n, from, to);
+    match factors.split_first() {
+        None => folds::finish(field, folding, n, to, first, out),
+        Some((per, rest)) => {
+            let next = Folding {
+                classes: folding.classes * folding.per,
+                per: *per,
+                part: folding.part / *per,
+            };
+            fold_by(field, next, rest, n, to, from, first, out);
+        }
+    }
 }
 
-// The same where there are 1,024 words.
-pub fn folded_10(
-    size: u32,
-    powers: &[u16],
-    logs: &[u16],
-    n: usize,
+// What `evaluate` promises, where there are WORDS words: their order is divided by `per`, then by the further factors, and what is left
+// are the words of a class. The values come as zeros.
+#[inline(never)]
+pub fn folded<const WORDS: usize>(
+    field: &Field,
+    per: usize,
+    factors: &[usize],
     from: &[u16],
-    points: Points,
+    first: usize,
     out: &mut [u16],
 )
-    requires fact_1 { Tables (size_of size) powers.now logs.now }
-    requires fact_2 { steps.Given (size_of size) n from.now }
-    requires fact_3 { steps.Asked (size_of size) points.first points.count out.old }
-    requires fact_4 { steps.Cleared points.count out.old }
-    requires fact_5 { 2 ^ bits (size_of size) ≡ 1024 }
-    ensures { steps.Valued (size_of size) points.first (steps.value_at (size_of size) n from.now) points.count
-        out.old out.new }
+    requires given { steps.Given (size_of field.now.size) (length from.now) from.now }
+    requires asked { steps.Asked (size_of field.now.size) first (length out.old) out.old }
+    requires cleared { steps.Cleared (length out.old) out.old }
+    requires words { 2 ^ bits (size_of field.now.size) ≡ WORDS }
+    requires factors_1 { per * ((WORDS - 1) / per) ≡ WORDS - 1 }
+    requires factors_2 { steps.Divides (size_of field.now.size) 1 per ((WORDS - 1) / per) factors.now }
+    ensures { steps.Valued (size_of field.now.size) first (steps.value_at (size_of field.now.size) (length from.now) from.now)
+        (length out.old) out.old out.new }
 {
-    let mut a = zeros::zeros_1024();
-    let mut b = zeros::zeros_1024();
-    let last = Folding {
-        classes: 11,
-        per: 3,
-        part: 31,
+    let n = from.len();
+    let mut a = zeros::<WORDS>();
+    let mut b = zeros::<WORDS>();
+    let folding = Folding {
+        classes: 1,
+        per,
+        part: (WORDS - 1) / per,
     };
-    buffers::copy(from, n, &mut a);
-    folds::fold(
-        size,
-        powers,
-        logs,
-        Folding {
-            classes: 1,
-            per: 11,
-            part: 93,
-        },
-        n,
-        &a,
-        &mut b,
-    );
-    folds::fold(size, powers, logs, last, n, &b, &mut a);
-    folds::finish(size, powers, logs, last, n, &a, points, out);
-}
-
-// The same where there are 256 words.
-pub fn folded_8(
-    size: u32,
-    powers: &[u16],
-    logs: &[u16],
-    n: usize,
-    from: &[u16],
-    points: Points,
-    out: &mut [u16],
-)
-    requires fact_1 { Tables (size_of size) powers.now logs.now }
-    requires fact_2 { steps.Given (size_of size) n from.now }
-    requires fact_3 { steps.Asked (size_of size) points.first points.count out.old }
-    requires fact_4 { steps.Cleared points.count out.old }
-    requires fact_5 { 2 ^ bits (size_of size) ≡ 256 }
-    ensures { steps.Valued (size_of size) points.first (steps.value_at (size_of size) n from.now) points.count
-        out.old out.new }
-{
-    let mut a = zeros::zeros_256();
-    let mut b = zeros::zeros_256();
-    let last = Folding {
-        classes: 5,
-        per: 3,
-        part: 17,
-    };
-    buffers::copy(from, n, &mut a);
-    folds::fold(
-        size,
-        powers,
-        logs,
-        Folding {
-            classes: 1,
-            per: 5,
-            part: 51,
-        },
-        n,
-        &a,
-        &mut b,
-    );
-    folds::fold(size, powers, logs, last, n, &b, &mut a);
-    folds::finish(size, powers, logs, last, n, &a, points, out);
+    a[..n].copy_from_slice(from);
+    fold_by(field, folding, factors, n, &mut a, &mut b, first, out);
 }

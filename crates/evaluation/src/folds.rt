@@ -4,11 +4,10 @@ ghost use Rattle.std.specs.Prelude.{◌≡◌, ℕ, ◌+◌, ◌*◌, ◌/◌, �
 ghost use Rattle.list_laws.specs.Filled.{filled};
 ghost use Rattle.finite_field.specs.Xor.{◌⊕◌};
 ghost use Rattle.finite_field.specs.Field.{size_of, bits, product, power};
-ghost use Rattle.finite_field.specs.Tables.{Tables};
 ghost use Rattle.evaluation.specs.Words.{Words};
 ghost use Rattle.evaluation.specs.Evaluation as steps;
 
-use crate::Points;
+use field::Field;
 
 // A step of folding: `classes` classes of `per · part` words each become `classes · per` classes of `part` words.
 #[derive(Clone, Copy)]
@@ -24,18 +23,12 @@ fn copy_chunk(from: &[u16], at: usize, count: usize, to: &mut [u16], into: usize
     requires fact_2 { into + count ≤ length to.old }
     ensures { steps.Placed (λ (r : ℕ). get_or from.now (at + r) 0) into count to.old to.new }
 {
-    let mut r = 0;
-    while r < count {
-        to[into + r] = from[at + r];
-        r += 1;
-    }
+    to[into..into + count].copy_from_slice(&from[at..at + count]);
 }
 
 // to_(into + r) ← to_(into + r) · 2^e + from_(at + r), r < count.
 fn add_chunk(
-    size: u32,
-    powers: &[u16],
-    logs: &[u16],
+    field: &Field,
     e: usize,
     from: &[u16],
     at: usize,
@@ -43,28 +36,24 @@ fn add_chunk(
     to: &mut [u16],
     into: usize,
 )
-    requires tables_1 { Tables (size_of size) powers.now logs.now }
-    requires tables_2 { Words (size_of size) to.old }
-    requires tables_3 { e < 2 ^ bits (size_of size) }
+    requires words { Words (size_of field.now.size) to.old }
+    requires exponent { e < 2 ^ bits (size_of field.now.size) }
     requires count_in_bounds_1 { at + count ≤ length from.now }
     requires count_in_bounds_2 { into + count ≤ length to.old }
     ensures { steps.Placed
-        (λ (r : ℕ). product (size_of size) (get_or to.old (into + r) 0) (power (size_of size) e)
+        (λ (r : ℕ). product (size_of field.now.size) (get_or to.old (into + r) 0) (power (size_of field.now.size) e)
         ⊕ get_or from.now (at + r) 0)
         into count to.old to.new }
 {
-    let mut r = 0;
-    while r < count {
-        to[into + r] = field::times_power(size, powers, logs, to[into + r], e) ^ from[at + r];
-        r += 1;
+    let field = *field;
+    for r in 0..count {
+        to[into + r] = field.times_power(to[into + r], e) ^ from[at + r];
     }
 }
 
 // The words of one class: to_(into + r) = the polynomial of from_(at + r), from_(at + part + r), .., `chunks` of them, at 2^into; r < part.
 fn fold_class(
-    size: u32,
-    powers: &[u16],
-    logs: &[u16],
+    field: &Field,
     part: usize,
     chunks: usize,
     from: &[u16],
@@ -72,30 +61,18 @@ fn fold_class(
     to: &mut [u16],
     into: usize,
 )
-    requires tables_1 { Tables (size_of size) powers.now logs.now }
-    requires tables_2 { Words (size_of size) from.now }
-    requires tables_3 { Words (size_of size) to.old }
-    requires into_bound_1 { into < 2 ^ bits (size_of size) }
+    requires from_words { Words (size_of field.now.size) from.now }
+    requires to_words { Words (size_of field.now.size) to.old }
+    requires into_bound_1 { into < 2 ^ bits (size_of field.now.size) }
     requires into_bound_2 { 0 < chunks }
     requires into_bound_3 { at + chunks * part ≤ length from.now }
     requires into_bound_4 { into + part ≤ length to.old }
-    ensures { steps.FoldedClass (size_of size) part chunks from.now at into to.old to.new }
+    ensures { steps.FoldedClass (size_of field.now.size) part chunks from.now at into to.old to.new }
 {
-    let mut k = chunks - 1;
-    copy_chunk(from, at + k * part, part, to, into);
-    while 0 < k {
-        k -= 1;
-        add_chunk(
-            size,
-            powers,
-            logs,
-            into,
-            from,
-            at + k * part,
-            part,
-            to,
-            into,
-        );
+    let last = chunks - 1;
+    copy_chunk(from, at + last * part, part, to, into);
+    for k in (0..last).rev() {
+        add_chunk(field, into, from, at + k * part, part, to, into);
     }
 }
 
@@ -127,23 +104,14 @@ fn pieces(n: usize, part: usize, most: usize) -> usize
 
 // With m classes, of whose words the first n count: to_(c · part + r) = sum over k of
 // from_((c mod m) · per · part + k · part + r) · 2^(c · part · k).
-pub fn fold(
-    size: u32,
-    powers: &[u16],
-    logs: &[u16],
-    folding: Folding,
-    n: usize,
-    from: &[u16],
-    to: &mut [u16],
-)
-    requires tables_1 { Tables (size_of size) powers.now logs.now }
-    requires tables_2 { Words (size_of size) from.now }
-    requires tables_3 { Words (size_of size) to.old }
-    requires divided_1 { steps.Divided (size_of size) folding.classes folding.per folding.part }
+pub fn fold(field: &Field, folding: Folding, n: usize, from: &[u16], to: &mut [u16])
+    requires from_words { Words (size_of field.now.size) from.now }
+    requires to_words { Words (size_of field.now.size) to.old }
+    requires divided_1 { steps.Divided (size_of field.now.size) folding.classes folding.per folding.part }
     requires divided_2 { n < 65536 }
-    requires divided_3 { 2 ^ bits (size_of size) ≤ length from.now }
-    requires divided_4 { 2 ^ bits (size_of size) ≤ length to.old }
-    ensures { steps.Refolded (size_of size) folding.classes folding.per folding.part n
+    requires divided_3 { 2 ^ bits (size_of field.now.size) ≤ length from.now }
+    requires divided_4 { 2 ^ bits (size_of field.now.size) ≤ length to.old }
+    ensures { steps.Refolded (size_of field.now.size) folding.classes folding.per folding.part n
         from.now to.new }
 {
     let m = folding.classes;
@@ -153,86 +121,55 @@ pub fn fold(
     let stride = per * part;
     let classes = m * per;
     let mut class = 0;
-    let mut c = 0;
-    while c < classes {
-        fold_class(
-            size,
-            powers,
-            logs,
-            part,
-            chunks,
-            from,
-            class * stride,
-            to,
-            c * part,
-        );
+    for c in 0..classes {
+        fold_class(field, part, chunks, from, class * stride, to, c * part);
         class = next_class(m, class);
-        c += 1;
     }
 }
 
-// out_j ← out_j · 2^(first + j) + from_(((first + j) mod m) · stride + r), j < count.
+// out_j ← out_j · 2^(first + j) + from_(((first + j) mod m) · stride + r).
 fn add_row(
-    size: u32,
-    powers: &[u16],
-    logs: &[u16],
+    field: &Field,
     m: usize,
     stride: usize,
     r: usize,
     from: &[u16],
-    points: Points,
+    first: usize,
     out: &mut [u16],
 )
-    requires tables_1 { Tables (size_of size) powers.now logs.now }
-    requires tables_2 { steps.Asked (size_of size) points.first points.count out.old }
+    requires asked { steps.Asked (size_of field.now.size) first (length out.old) out.old }
     requires lt_m_1 { 1 < m }
     requires lt_m_2 { r < stride }
     requires lt_m_3 { m * stride ≤ length from.now }
     ensures { out.new ≡ filled
-        (λ (j : ℕ). product (size_of size) (get_or out.old j 0) (power (size_of size) (points.first + j))
-        ⊕ get_or from.now ((points.first + j) % m * stride + r) 0)
-        points.count out.old }
+        (λ (j : ℕ). product (size_of field.now.size) (get_or out.old j 0) (power (size_of field.now.size) (first + j))
+        ⊕ get_or from.now ((first + j) % m * stride + r) 0)
+        (length out.old) out.old }
 {
-    let first = points.first;
-    let count = points.count;
+    let field = *field;
     let mut class = first;
-    let mut j = 0;
-    while j < count {
-        out[j] = field::times_power(size, powers, logs, out[j], first + j)
-            ^ from[class * stride + r];
+    for j in 0..out.len() {
+        out[j] = field.times_power(out[j], first + j) ^ from[class * stride + r];
         class = next_class(m, class);
-        j += 1;
     }
 }
 
 // The values of the classes that the last folding left, of whose words the first n count: out_j = the polynomial of class first + j at
 // 2^(first + j). They come as zeros.
-pub fn finish(
-    size: u32,
-    powers: &[u16],
-    logs: &[u16],
-    last: Folding,
-    n: usize,
-    from: &[u16],
-    points: Points,
-    out: &mut [u16],
-)
-    requires tables_1 { Tables (size_of size) powers.now logs.now }
-    requires tables_2 { Words (size_of size) from.now }
-    requires tables_3 { steps.Asked (size_of size) points.first points.count out.old }
-    requires tables_4 { steps.Cleared points.count out.old }
-    requires divided_1 { steps.Divided (size_of size) last.classes last.per last.part }
+pub fn finish(field: &Field, last: Folding, n: usize, from: &[u16], first: usize, out: &mut [u16])
+    requires words { Words (size_of field.now.size) from.now }
+    requires asked { steps.Asked (size_of field.now.size) first (length out.old) out.old }
+    requires cleared { steps.Cleared (length out.old) out.old }
+    requires divided_1 { steps.Divided (size_of field.now.size) last.classes last.per last.part }
     requires divided_2 { 1 < last.classes }
     requires divided_3 { n < 65536 }
-    requires divided_4 { 2 ^ bits (size_of size) ≤ length from.now }
-    ensures { steps.Finished (size_of size) points.first (last.classes * last.per) last.part n from.now
-        points.count out.old out.new }
+    requires divided_4 { 2 ^ bits (size_of field.now.size) ≤ length from.now }
+    ensures { steps.Finished (size_of field.now.size) first (last.classes * last.per) last.part n from.now
+        (length out.old) out.old out.new }
 {
     let m = last.classes * last.per;
     let stride = last.part;
-    let mut r = pieces(n, 1, stride);
-    while 0 < r {
-        r -= 1;
-        add_row(size, powers, logs, m, stride, r, from, points, out);
+    for r in (0..pieces(n, 1, stride)).rev() {
+        add_row(field, m, stride, r, from, first, out);
     }
 }

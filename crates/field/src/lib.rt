@@ -1,5 +1,4 @@
-// Products, powers and inverses of words, by tables that the caller lends. `size` names the word size for the contracts alone: what the
-// code needs of it is in the tables' length. `times_power` is the one place where a product is formed.
+// Products, powers and inverses of words, by tables that are lent. `times_power` is the one place where a product is formed.
 #![tactic(auto)]
 
 ghost use Rattle.std.specs.Prelude.{◌≡◌, ◌<◌, ◌^◌};
@@ -7,10 +6,17 @@ ghost use Rattle.finite_field.specs.Field.{size_of, bits, Word, product, power, 
 ghost use Rattle.finite_field.specs.Tables.{Tables};
 ghost use Rattle.field.specs.Turned as turning;
 
-pub fn wide(x: u16) -> usize
-    ensures { result ≡ x }
-{
-    x as usize
+use finite_field::tables;
+
+// A word field by its tables. `size` names the word size for the contracts alone: what the code needs of it is in the tables' length.
+// A loop that stores words works on a copy of its own (`let field = *field;`): for all that the compiler knows, a store could change what a
+// reference shows, and then each turn would look up again where the tables are.
+#[derive(Clone, Copy)]
+pub struct Field<'a> {
+    pub size: u32,
+    pub powers: &'a [u16],
+    pub logs: &'a [u16],
+    pub ghost tables: { Tables (size_of size) powers.now logs.now },
 }
 
 // The exponent e + k, turned over at the order of x, where there are `words` words. There is no branch on the sum.
@@ -24,54 +30,62 @@ pub fn turned(size: u32, words: usize, e: usize, k: usize) -> usize
     (sum & (words - 1)) + (words <= sum) as usize
 }
 
-// a · 2^k: the exponents add up, and turn over at the order of x.
-pub fn times_power(size: u32, powers: &[u16], logs: &[u16], a: u16, k: usize) -> u16
-    requires fact_1 { Tables (size_of size) powers.now logs.now }
-    requires fact_2 { Word (size_of size) a }
-    requires fact_3 { k < 2 ^ bits (size_of size) }
-    ensures { result ≡ product (size_of size) a (power (size_of size) k) }
-{
-    if a == 0 {
-        return 0;
+impl Field<'static> {
+    // The field of words of `size` bits. As in the definitions, any other number than 4, 6, 8 and 10 stands for 12.
+    pub fn of_size(size: u32) -> Self
+        ensures { result.size ≡ size }
+    {
+        Field {
+            size,
+            powers: tables::powers(size),
+            logs: tables::logs(size),
+        }
     }
-    let i = a as usize;
-    let e = wide(logs[i]);
-    powers[turned(size, powers.len(), e, k)]
 }
 
-// a · b.
-pub fn product(size: u32, powers: &[u16], logs: &[u16], a: u16, b: u16) -> u16
-    requires fact_1 { Tables (size_of size) powers.now logs.now }
-    requires fact_2 { Word (size_of size) a }
-    requires fact_3 { Word (size_of size) b }
-    ensures { result ≡ product (size_of size) a b }
-{
-    if b == 0 {
-        return 0;
+impl<'a> Field<'a> {
+    // a · 2^k: the exponents add up, and turn over at the order of x.
+    pub fn times_power(&self, a: u16, k: usize) -> u16
+        requires word { Word (size_of self.now.size) a }
+        requires k_bound { k < 2 ^ bits (size_of self.now.size) }
+        ensures { result ≡ product (size_of self.now.size) a (power (size_of self.now.size) k) }
+    {
+        if a == 0 {
+            return 0;
+        }
+        let e = usize::from(self.logs[usize::from(a)]);
+        self.powers[turned(self.size, self.powers.len(), e, k)]
     }
-    let j = b as usize;
-    times_power(size, powers, logs, a, wide(logs[j]))
-}
 
-// 2^k, for any k.
-pub fn power(size: u32, powers: &[u16], logs: &[u16], k: usize) -> u16
-    requires { Tables (size_of size) powers.now logs.now }
-    ensures { result ≡ power (size_of size) k }
-{
-    let order = powers.len() - 1;
-    powers[k % order]
-}
-
-// 1 / a, and 0 for 0.
-pub fn inverse(size: u32, powers: &[u16], logs: &[u16], a: u16) -> u16
-    requires fact_1 { Tables (size_of size) powers.now logs.now }
-    requires fact_2 { Word (size_of size) a }
-    ensures { result ≡ inverse (size_of size) a }
-{
-    if a == 0 {
-        return 0;
+    // a · b.
+    pub fn product(&self, a: u16, b: u16) -> u16
+        requires a_word { Word (size_of self.now.size) a }
+        requires b_word { Word (size_of self.now.size) b }
+        ensures { result ≡ product (size_of self.now.size) a b }
+    {
+        if b == 0 {
+            return 0;
+        }
+        self.times_power(a, usize::from(self.logs[usize::from(b)]))
     }
-    let order = powers.len() - 1;
-    let i = a as usize;
-    powers[order - wide(logs[i])]
+
+    // 2^k, for any k.
+    pub fn power(&self, k: usize) -> u16
+        ensures { result ≡ power (size_of self.now.size) k }
+    {
+        let order = self.powers.len() - 1;
+        self.powers[k % order]
+    }
+
+    // 1 / a, and 0 for 0.
+    pub fn inverse(&self, a: u16) -> u16
+        requires { Word (size_of self.now.size) a }
+        ensures { result ≡ inverse (size_of self.now.size) a }
+    {
+        if a == 0 {
+            return 0;
+        }
+        let order = self.powers.len() - 1;
+        self.powers[order - usize::from(self.logs[usize::from(a)])]
+    }
 }

@@ -1,51 +1,27 @@
 // The powers of x and the logarithms of words in the fields of the five word sizes: entry k of POWERS_b is x ^ k, entry a of LOGS_b the
-// exponent of the word a (0 has none, and its entry is 0). A function that names a constant array copies it: so each has one function,
-// which the public entries call once and lend from. Printed by scripts/print_tables.py, in the layout of rt fmt.
+// exponent of the word a (0 has none, and its entry is 0). They are statics, which are lent and never copied. As in the definitions, a
+// size other than 4, 6, 8 and 10 stands for 12. Printed by scripts/print_tables.py, in the layout of rt fmt.
 ghost use Rattle.std.specs.Prelude.{◌≡◌};
-ghost use Rattle.finite_field.specs.Field.{w4, w6, w8, w10, w12};
+ghost use Rattle.finite_field.specs.Field.{size_of};
 ghost use Rattle.finite_field.specs.Tables.{powers, logs};
 
-const POWERS_4: [u16; 16] = [1, 2, 4, 8, 3, 6, 12, 11, 5, 10, 7, 14, 15, 13, 9, 1];
+static POWERS_4: [u16; 16] = [1, 2, 4, 8, 3, 6, 12, 11, 5, 10, 7, 14, 15, 13, 9, 1];
 
-pub fn powers_4() -> [u16; 16]
-    ensures { result ≡ powers w4 }
-{
-    POWERS_4
-}
+static LOGS_4: [u16; 16] = [0, 0, 1, 4, 2, 8, 5, 10, 3, 14, 9, 7, 6, 13, 11, 12];
 
-const LOGS_4: [u16; 16] = [0, 0, 1, 4, 2, 8, 5, 10, 3, 14, 9, 7, 6, 13, 11, 12];
-
-pub fn logs_4() -> [u16; 16]
-    ensures { result ≡ logs w4 }
-{
-    LOGS_4
-}
-
-const POWERS_6: [u16; 64] = [
+static POWERS_6: [u16; 64] = [
     1, 2, 4, 8, 16, 32, 3, 6, 12, 24, 48, 35, 5, 10, 20, 40, 19, 38, 15, 30, 60, 59, 53, 41, 17,
     34, 7, 14, 28, 56, 51, 37, 9, 18, 36, 11, 22, 44, 27, 54, 47, 29, 58, 55, 45, 25, 50, 39, 13,
     26, 52, 43, 21, 42, 23, 46, 31, 62, 63, 61, 57, 49, 33, 1,
 ];
 
-pub fn powers_6() -> [u16; 64]
-    ensures { result ≡ powers w6 }
-{
-    POWERS_6
-}
-
-const LOGS_6: [u16; 64] = [
+static LOGS_6: [u16; 64] = [
     0, 0, 1, 6, 2, 12, 7, 26, 3, 32, 13, 35, 8, 48, 27, 18, 4, 24, 33, 16, 14, 52, 36, 54, 9, 45,
     49, 38, 28, 41, 19, 56, 5, 62, 25, 11, 34, 31, 17, 47, 15, 23, 53, 51, 37, 44, 55, 40, 10, 61,
     46, 30, 50, 22, 39, 43, 29, 60, 42, 21, 20, 59, 57, 58,
 ];
 
-pub fn logs_6() -> [u16; 64]
-    ensures { result ≡ logs w6 }
-{
-    LOGS_6
-}
-
-const POWERS_8: [u16; 256] = [
+static POWERS_8: [u16; 256] = [
     1, 2, 4, 8, 16, 32, 64, 128, 45, 90, 180, 69, 138, 57, 114, 228, 229, 231, 227, 235, 251, 219,
     155, 27, 54, 108, 216, 157, 23, 46, 92, 184, 93, 186, 89, 178, 73, 146, 9, 18, 36, 72, 144, 13,
     26, 52, 104, 208, 141, 55, 110, 220, 149, 7, 14, 28, 56, 112, 224, 237, 247, 195, 171, 123,
@@ -61,13 +37,7 @@ const POWERS_8: [u16; 256] = [
     119, 238, 241, 207, 179, 75, 150, 1,
 ];
 
-pub fn powers_8() -> [u16; 256]
-    ensures { result ≡ powers w8 }
-{
-    POWERS_8
-}
-
-const LOGS_8: [u16; 256] = [
+static LOGS_8: [u16; 256] = [
     0, 0, 1, 240, 2, 225, 241, 53, 3, 38, 226, 133, 242, 43, 54, 210, 4, 195, 39, 114, 227, 106,
     134, 28, 243, 140, 44, 23, 55, 118, 211, 234, 5, 219, 196, 96, 40, 222, 115, 103, 228, 78, 107,
     125, 135, 8, 29, 162, 244, 186, 141, 180, 45, 99, 24, 49, 56, 13, 119, 153, 212, 199, 235, 91,
@@ -83,13 +53,7 @@ const LOGS_8: [u16; 256] = [
     111, 20, 93, 122, 177, 150,
 ];
 
-pub fn logs_8() -> [u16; 256]
-    ensures { result ≡ logs w8 }
-{
-    LOGS_8
-}
-
-const POWERS_10: [u16; 1024] = [
+static POWERS_10: [u16; 1024] = [
     1, 2, 4, 8, 16, 32, 64, 128, 256, 512, 9, 18, 36, 72, 144, 288, 576, 137, 274, 548, 65, 130,
     260, 520, 25, 50, 100, 200, 400, 800, 585, 155, 310, 620, 209, 418, 836, 641, 267, 534, 37, 74,
     148, 296, 592, 169, 338, 676, 321, 642, 269, 538, 61, 122, 244, 488, 976, 937, 859, 703, 375,
@@ -146,13 +110,7 @@ const POWERS_10: [u16; 1024] = [
     147, 294, 588, 145, 290, 580, 129, 258, 516, 1,
 ];
 
-pub fn powers_10() -> [u16; 1024]
-    ensures { result ≡ powers w10 }
-{
-    POWERS_10
-}
-
-const LOGS_10: [u16; 1024] = [
+static LOGS_10: [u16; 1024] = [
     0, 0, 1, 77, 2, 154, 78, 956, 3, 10, 155, 325, 79, 618, 957, 231, 4, 308, 11, 200, 156, 889,
     326, 695, 80, 24, 619, 87, 958, 402, 232, 436, 5, 513, 309, 551, 12, 40, 201, 479, 157, 518,
     890, 101, 327, 164, 696, 860, 81, 258, 25, 385, 620, 277, 88, 577, 959, 772, 403, 680, 233, 52,
@@ -209,13 +167,7 @@ const LOGS_10: [u16; 1024] = [
     946, 947, 879, 948, 541, 880, 248, 949,
 ];
 
-pub fn logs_10() -> [u16; 1024]
-    ensures { result ≡ logs w10 }
-{
-    LOGS_10
-}
-
-const POWERS_12: [u16; 4096] = [
+static POWERS_12: [u16; 4096] = [
     1, 2, 4, 8, 16, 32, 64, 128, 256, 512, 1024, 2048, 105, 210, 420, 840, 1680, 3360, 2601, 1083,
     2166, 133, 266, 532, 1064, 2128, 201, 402, 804, 1608, 3216, 2377, 763, 1526, 3052, 1969, 3938,
     3757, 3379, 2575, 1143, 2286, 437, 874, 1748, 3496, 2873, 1563, 3126, 2053, 99, 198, 396, 792,
@@ -469,13 +421,7 @@ const POWERS_12: [u16; 4096] = [
     670, 1340, 2680, 1177, 2354, 525, 1050, 2100, 1,
 ];
 
-pub fn powers_12() -> [u16; 4096]
-    ensures { result ≡ powers w12 }
-{
-    POWERS_12
-}
-
-const LOGS_12: [u16; 4096] = [
+static LOGS_12: [u16; 4096] = [
     0, 0, 1, 3825, 2, 3555, 3826, 1600, 3, 1330, 3556, 822, 3827, 1222, 1601, 3285, 4, 3015, 1331,
     339, 3557, 3200, 823, 952, 3828, 2091, 1223, 1060, 1602, 552, 3286, 590, 5, 320, 3016, 2822,
     1332, 394, 340, 282, 3558, 2666, 3201, 1821, 824, 790, 953, 852, 3829, 2422, 2092, 2745, 1224,
@@ -730,8 +676,28 @@ const LOGS_12: [u16; 4096] = [
     2693, 1077, 2363, 912, 2787, 975, 1495,
 ];
 
-pub fn logs_12() -> [u16; 4096]
-    ensures { result ≡ logs w12 }
+// The powers of x, in the field of words of `size` bits.
+pub fn powers(size: u32) -> &'static [u16]
+    ensures { result.now ≡ powers (size_of size) }
 {
-    LOGS_12
+    match size {
+        4 => &POWERS_4,
+        6 => &POWERS_6,
+        8 => &POWERS_8,
+        10 => &POWERS_10,
+        _ => &POWERS_12,
+    }
+}
+
+// The logarithms of words, in the same field.
+pub fn logs(size: u32) -> &'static [u16]
+    ensures { result.now ≡ logs (size_of size) }
+{
+    match size {
+        4 => &LOGS_4,
+        6 => &LOGS_6,
+        8 => &LOGS_8,
+        10 => &LOGS_10,
+        _ => &LOGS_12,
+    }
 }

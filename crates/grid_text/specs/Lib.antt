@@ -3,6 +3,7 @@ pub mod Scanning
 pub mod ScanningLaws
 pub mod Grid
 pub mod GridLaws
+pub mod SideLaws
 pub mod Border
 pub mod BorderLaws
 pub mod Examples

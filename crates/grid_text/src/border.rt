@@ -16,16 +16,10 @@ fn is_light_at(grid: &[u8], side: usize, ring: usize, k: usize) -> bool
 {
     let at = ring + k;
     let last = side - 1 - ring;
-    if module_at(grid, side, ring, at) != 0 {
-        return false;
-    }
-    if module_at(grid, side, last, at) != 0 {
-        return false;
-    }
-    if module_at(grid, side, at, ring) != 0 {
-        return false;
-    }
-    module_at(grid, side, at, last) == 0
+    module_at(grid, side, ring, at) == 0
+        && module_at(grid, side, last, at) == 0
+        && module_at(grid, side, at, ring) == 0
+        && module_at(grid, side, at, last) == 0
 }
 
 // Whether a ring of the grid is light, all of it.
@@ -33,14 +27,7 @@ pub fn is_light_ring(grid: &[u8], side: usize, ring: usize) -> bool
     requires { (2 * ring < side) × (side * side ≤ length grid.now) }
     ensures { result ≡ light_ring grid.now side ring }
 {
-    let mut k = 0;
-    while k < side - 2 * ring {
-        if !is_light_at(grid, side, ring, k) {
-            return false;
-        }
-        k += 1;
-    }
-    true
+    (0..side - 2 * ring).all(|k| is_light_at(grid, side, ring, k))
 }
 
 // Copies the grid inside of some rings to the front of `inner`.
@@ -49,10 +36,7 @@ pub fn copy_inner(grid: &[u8], side: usize, rings: usize, inner: &mut [u8])
     ensures { inner.new ≡ copied grid.now side rings inner.old }
 {
     let width = side - 2 * rings;
-    let count = width * width;
-    let mut k = 0;
-    while k < count {
+    for k in 0..width * width {
         inner[k] = module_at(grid, side, rings + k / width, rings + k % width);
-        k += 1;
     }
 }

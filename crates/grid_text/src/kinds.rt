@@ -1,9 +1,4 @@
 // What a byte is, wherever it stands.
-ghost use Rattle.std.specs.Prelude.{◌≡◌};
-ghost use Rattle.grid_text.specs.Kinds.{kind_of};
-
-// Stands for a byte that is no module.
-pub const NO_MODULE: u8 = 3;
 
 #[derive(Clone, Copy)]
 pub enum Kind {
@@ -20,32 +15,21 @@ pub enum Kind {
     Other,
 }
 
-pub fn kind_of(byte: u8) -> Kind
-    ensures { result ≡ kind_of byte }
-{
-    if byte == b'\n' {
-        return Kind::Line;
+impl From<u8> for Kind {
+    ghost use Rattle.std.specs.Prelude.{◌≡◌};
+    ghost use Rattle.grid_text.specs.Kinds.{kind_of};
+
+    ghost from_gives = { λ byte kind. kind ≡ kind_of byte };
+
+    #[tactic(auto, unfolding(crate::specs::Kinds::kind_of))]
+    fn from(byte: u8) -> Kind {
+        match byte {
+            b'\n' => Kind::Line,
+            b' ' | b'\t' | b'\r' => Kind::Blank,
+            b'0'..=b'9' => Kind::Digit(byte - b'0'),
+            b'?' => Kind::Unread,
+            b'#' => Kind::Hash,
+            _ => Kind::Other,
+        }
     }
-    if byte == b' ' {
-        return Kind::Blank;
-    }
-    if byte == b'\t' {
-        return Kind::Blank;
-    }
-    if byte == b'\r' {
-        return Kind::Blank;
-    }
-    if byte == b'?' {
-        return Kind::Unread;
-    }
-    if byte == b'#' {
-        return Kind::Hash;
-    }
-    if byte < b'0' {
-        return Kind::Other;
-    }
-    if b'9' < byte {
-        return Kind::Other;
-    }
-    Kind::Digit(byte - b'0')
 }

@@ -7,94 +7,84 @@ pub mod kinds;
 pub mod rows;
 pub mod scanning;
 
-ghost use Rattle.std.specs.Prelude.{◌≡◌, ◌+◌, ◌<◌, ◌^◌, length};
+ghost use Rattle.std.specs.Prelude.{◌≡◌, ◌+◌, ◌<◌, ◌^◌, length, IfSome};
 ghost use Rattle.std.proofs.lemmas.List.Edits.{sets};
 ghost use Rattle.list_laws.specs.Putting.{Put};
-ghost use Rattle.grid_text.specs.Grid.{one_module, modules, side_in, judged, side_from, is_bitmap, side_of, modules_of};
+ghost use Rattle.grid_text.specs.Grid.{one_module, modules, side_in, judged, side_from, side_of, modules_of};
 
 use kinds::Kind;
 use scanning::Scan;
 
-// Stores a module at place `at`, if it is one and the grid has that place, and answers the place after it.
-fn put_module(value: u8, grid: &mut [u8], at: usize) -> usize
+// Stores a module at place `at`, if there is one and the grid has that place, and answers the place after it.
+fn put_module(shown: Option<u8>, grid: &mut [u8], at: usize) -> usize
     requires { at + 1 < 2 ^ 64 }
-    ensures { Put (one_module value) grid.old at grid.new result }
+    ensures { Put (one_module shown) grid.old at grid.new result }
 {
-    if 2 < value {
+    let Some(value) = shown else {
         return at;
+    };
+    if at < grid.len() {
+        grid[at] = value;
     }
-    if grid.len() <= at {
-        return at + 1;
-    }
-    grid[at] = value;
     at + 1
 }
 
 // The side that a bitmap's header, or the first row, gave.
-fn side_of(scan: Scan) -> u8
+#[tactic(auto, unfolding(crate::specs::Grid::side_in))]
+fn side_of(scan: Scan) -> Option<u8>
     ensures { result ≡ side_in scan }
 {
     match scan {
-        Scan::Gap { side: _ } => 0,
-        Scan::Comment { side: _ } => 0,
-        Scan::Number { side: _, value: _ } => 0,
-        Scan::Raster { side } => side,
+        Scan::Raster { side } => Some(side),
         Scan::Rows { side, column: _ } => side,
-        Scan::Bad => 0,
+        _ => None,
     }
 }
 
-// The side, if there are side² modules and room for them, or 0.
-fn judge(side: u8, count: usize, room: usize) -> u8
+// The side, if there are side² modules and room for them.
+#[tactic(auto, unfolding(crate::specs::Grid::judged))]
+fn judge(side: u8, count: usize, room: usize) -> Option<u8>
     ensures { result ≡ judged side count room }
 {
-    if side as usize * side as usize != count {
-        return 0;
+    let modules = usize::from(side) * usize::from(side);
+    if modules == count && count <= room {
+        return Some(side);
     }
-    if room < count {
-        return 0;
-    }
-    side
+    None
 }
 
 // One byte after the other, from where the reading starts.
-fn read_from(first: Scan, bytes: &[u8], grid: &mut [u8]) -> u8
+fn read_from(first: Scan, bytes: &[u8], grid: &mut [u8]) -> Option<u8>
     ensures value { result ≡ side_from first bytes.now (length grid.old) }
     ensures grid_after { grid.new ≡ sets grid.old 0 (modules first bytes.now) }
 {
     let mut scan = first;
     let mut at = 0;
-    let mut i = 0;
-    while i < bytes.len() {
-        let kind = kinds::kind_of(bytes[i]);
+    for byte in bytes {
+        let kind = Kind::from(*byte);
         at = put_module(scanning::module_of(scan, kind), grid, at);
         scan = scanning::step(scan, kind);
-        i += 1;
     }
-    judge(side_of(scanning::step(scan, Kind::Line)), at, grid.len())
+    let side = side_of(scanning::step(scan, Kind::Line))?;
+    judge(side, at, grid.len())
 }
 
-// Whether the bytes begin with P1.
-fn is_bitmap(bytes: &[u8]) -> bool
-    ensures { result ≡ is_bitmap bytes.now }
-{
-    if bytes.len() < 2 {
-        return false;
-    }
-    if bytes[0] != b'P' {
-        return false;
-    }
-    bytes[1] == b'1'
-}
-
-// The side of the grid that the bytes say, or 0: no grid, or no room for its modules. The modules met, as many as have room, stand at the
-// front of the grid then; the rest is as it was.
-pub fn read_grid(bytes: &[u8], grid: &mut [u8]) -> u8
+// The side of the grid that the bytes say, if they say one and there is room for its modules. The modules met, as many as have room, stand at
+// the front of the grid then, for bytes that are refused too; the rest is as it was.
+pub fn read_grid(bytes: &[u8], grid: &mut [u8]) -> Option<u8>
     ensures value { result ≡ side_of bytes.now (length grid.old) }
+    ensures positive { IfSome result (λ side. 0 < side) }
     ensures grid_after { grid.new ≡ sets grid.old 0 (modules_of bytes.now) }
 {
-    if is_bitmap(bytes) {
-        return read_from(Scan::Gap { side: 0 }, &bytes[2..], grid);
+    match bytes.strip_prefix(b"P1") {
+        Some(rest) => read_from(Scan::Gap { side: None }, rest, grid),
+        None => read_from(
+            Scan::Rows {
+                side: None,
+                column: 0,
+            },
+            bytes,
+            grid,
+        ),
     }
-    read_from(Scan::Rows { side: 0, column: 0 }, bytes, grid)
 }

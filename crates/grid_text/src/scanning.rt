@@ -2,24 +2,25 @@
 ghost use Rattle.std.specs.Prelude.{◌≡◌};
 ghost use Rattle.grid_text.specs.Scanning.{step, shown};
 
-use crate::kinds::{Kind, NO_MODULE};
+use crate::kinds::Kind;
 use crate::{bitmap, rows};
 
 #[derive(Clone, Copy)]
 pub enum Scan {
-    // A bitmap, before its width (side 0) or its height.
-    Gap { side: u8 },
-    Comment { side: u8 },
-    // In the width (side 0) or the height: its value so far.
-    Number { side: u8, value: u8 },
+    // A bitmap, before its width, or after that, before its height.
+    Gap { side: Option<u8> },
+    Comment { side: Option<u8> },
+    // In the width, or after that, in the height: its value so far.
+    Number { side: Option<u8>, value: u8 },
     // Among a bitmap's modules.
     Raster { side: u8 },
-    // In a row of a text grid, after some of its modules; side 0 in the first row.
-    Rows { side: u8, column: u8 },
+    // In a row of a text grid, after some of its modules; the first row gives the side.
+    Rows { side: Option<u8>, column: u8 },
     Bad,
 }
 
 // From one byte to the next.
+#[tactic(auto, unfolding(crate::specs::Scanning::step))]
 pub fn step(scan: Scan, kind: Kind) -> Scan
     ensures { result ≡ step scan kind }
 {
@@ -33,16 +34,14 @@ pub fn step(scan: Scan, kind: Kind) -> Scan
     }
 }
 
-// The module that a byte is, or 3.
-pub fn module_of(scan: Scan, kind: Kind) -> u8
+// The module that a byte is, if it is one.
+#[tactic(auto, unfolding(crate::specs::Scanning::shown))]
+pub fn module_of(scan: Scan, kind: Kind) -> Option<u8>
     ensures { result ≡ shown scan kind }
 {
     match scan {
-        Scan::Gap { side: _ } => NO_MODULE,
-        Scan::Comment { side: _ } => NO_MODULE,
-        Scan::Number { side: _, value: _ } => NO_MODULE,
-        Scan::Raster { side: _ } => bitmap::raster_module_of(kind),
-        Scan::Rows { side: _, column: _ } => rows::row_module_of(kind),
-        Scan::Bad => NO_MODULE,
+        Scan::Raster { .. } => bitmap::raster_module_of(kind),
+        Scan::Rows { .. } => rows::row_module_of(kind),
+        _ => None,
     }
 }

@@ -2,64 +2,38 @@
 // said that the system failed.
 #![tactic(auto)]
 
-ghost use Rattle.std.specs.Prelude.{◌≡◌, ◌≤◌, ◌<◌, length, take, IsNone, IsSome};
+ghost use Rattle.std.specs.Prelude.{◌≡◌, ◌≤◌, ◌<◌, length, take, IfOk, MatchResult};
 ghost use Rattle.std.specs.Io.KnownBytes.{Consumes, IsAtEnd};
+ghost use Rattle.input.specs.Filled.{filled};
 
 use std::env::FillError;
 use std::io;
 use std::io::{Read, Write};
 use std::rt::Env;
 
-// What was read: how many bytes, and the error of the read that failed, if one did.
+// A read failed after so many bytes of the buffer were filled.
 #[derive(Drop)]
-pub struct Filled {
+pub struct Failed {
     pub length: usize,
-    pub failed: Option<io::Error>,
+    pub error: io::Error,
 }
 
-fn read_once<R: Read>(reader: &mut R, rest: &mut [u8]) -> Filled
-    ensures length { result.length ≤ length rest.new }
-    ensures bytes { Consumes (R.remaining reader.old) (R.remaining reader.new) (take result.length rest.new) }
-    ensures failure { IsSome result.failed → result.length ≡ 0 }
-    ensures end { IsNone result.failed → result.length ≡ 0 → 0 < length rest.new → IsAtEnd (R.remaining reader.new) }
-{
-    match reader.read(rest) {
-        Ok(length) => Filled {
-            length,
-            failed: None,
-        },
-        Err(error) => Filled {
-            length: 0,
-            failed: Some(error),
-        },
-    }
-}
-
-// Reads until the buffer is full, the input ends or a read fails. So a buffer that isn't full holds the input's end, wherever the reads
-// ended.
-pub fn fill<R: Read>(reader: &mut R, buffer: &mut [u8]) -> Filled
-    ensures length { result.length ≤ length buffer.new }
-    ensures bytes { Consumes (R.remaining reader.old) (R.remaining reader.new) (take result.length buffer.new) }
-    ensures end { IsNone result.failed → result.length < length buffer.new → IsAtEnd (R.remaining reader.new) }
+// Reads until the buffer is full, the input ends or a read fails, and answers how many bytes were read. So a buffer that isn't full holds the
+// input's end, wherever the reads ended.
+pub fn fill<R: Read>(reader: &mut R, buffer: &mut [u8]) -> Result<usize, Failed>
+    ensures within { MatchResult result (λ n. n ≤ length buffer.new) (λ e. e.length ≤ length buffer.new) }
+    ensures bytes { Consumes (R.remaining reader.old) (R.remaining reader.new) (take (filled result) buffer.new) }
+    ensures end { IfOk result (λ n. n < length buffer.new → IsAtEnd (R.remaining reader.new)) }
 {
     let mut at = 0;
     while at < buffer.len() {
-        let part = read_once(reader, &mut buffer[at..]);
-        if part.failed.is_some() {
-            return Filled {
-                length: at,
-                failed: part.failed,
-            };
+        match reader.read(&mut buffer[at..]) {
+            Ok(0) => return Ok(at),
+            Ok(count) => at += count,
+            Err(error) => return Err(Failed { length: at, error }),
         }
-        if part.length == 0 {
-            break;
-        }
-        at += part.length;
     }
-    Filled {
-        length: at,
-        failed: None,
-    }
+    Ok(at)
 }
 
 // What the system says of an error, without the number that std puts behind it: `No such file or directory`.
@@ -122,12 +96,10 @@ mod tests {
         let mut reader: &[u8] = b"abcde";
         let mut buffer = [0u8; 3];
         let first = fill(&mut reader, &mut buffer);
-        assert!(rt; first.failed.is_none());
-        assert_eq!(rt; first.length, 3);
+        assert_eq!(rt; first.ok(), Some(3));
         assert_eq!(rt; buffer.as_slice(), b"abc".as_slice());
         let rest = fill(&mut reader, &mut buffer);
-        assert!(rt; rest.failed.is_none());
-        assert_eq!(rt; rest.length, 2);
+        assert_eq!(rt; rest.ok(), Some(2));
         assert_eq!(rt; buffer.as_slice(), b"dec".as_slice());
         Ok(())
     }
@@ -136,9 +108,9 @@ mod tests {
     fn tells_the_error_after_what_was_read(rt: HostRuntime) -> Result<(), Fail> {
         let mut reader = Failing { pairs: 2 };
         let mut buffer = [0u8; 8];
-        let filled = fill(&mut reader, &mut buffer);
-        assert_eq!(rt; filled.length, 4);
-        assert_eq!(rt; filled.failed.ok_or("no error")?.raw_os_error(), Some(5));
+        let failed = fill(&mut reader, &mut buffer).err().ok_or("no error")?;
+        assert_eq!(rt; failed.length, 4);
+        assert_eq!(rt; failed.error.raw_os_error(), Some(5));
         assert_eq!(rt; buffer.as_slice(), [7, 9, 7, 9, 0, 0, 0, 0].as_slice());
         Ok(())
     }

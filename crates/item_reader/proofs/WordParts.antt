@@ -1,8 +1,11 @@
 -- The words that the reader takes apart: a word's stream bits by the code's tests, and steps of its place.
 -- Assumes nothing.
-use mathlib.Core.Path.{◌≡◌, sym, ap, ap₂, ◌∙◌}
+use Rattle.std.specs.List.{sum_by}
+use Rattle.std.proofs.lemmas.List.Sums.{sum_by-cons}
+use Rattle.std.proofs.Common.{length-append}
+use mathlib.Core.Path.{◌≡◌, refl, sym, ap, ap₂, ◌∙◌}
 use mathlib.Core.Bool.{cond, ◌||◌}
-use mathlib.Core.List.{List}
+use mathlib.Core.List.{List, [], ◌∷◌}
 use Prim.Native.Nat.{ℕ, suc, ◌+◌, ◌*◌, ◌-◌, ◌/◌, ◌%◌, ◌^◌, ◌≤◌, ◌<◌}
 use native.Mathlib.Numerals.{add-one}
 use native.Mathlib.Omega.{arith}
@@ -13,9 +16,9 @@ use lib.Seq.{drop-drop}
 use borrow.Author.Tests.{eq-eqb, ne_eqb}
 use Rattle.stream.specs.Below.{Bits, below-take, below-drop}
 use Rattle.stream.specs.Bits.{value-below}
-use Rattle.stream.specs.Stuffing.{flat, unstuff_from}
+use Rattle.stream.specs.Stuffing.{flat, word_bits, unstuff_from}
 use Rattle.stream.specs.StuffingLaws.{unstuff-is-bits}
-use Rattle.item_reader.specs.Places.{word_length, rest, rest-next, rest-field, some_left, Taken, taken_more}
+use Rattle.item_reader.specs.Places.{word_length, word-length-most, length-word, rest, rest-next, rest-field, some_left, Taken, taken_more}
 
 pub one_shl : (k : ℕ) → k < 64 → 1 * 2 ^ k % 18446744073709551616 ≡ 2 ^ k
 one_shl k h = omega (arith, pow_mono {i = k} {j = 63} (omega arith))
@@ -79,3 +82,16 @@ module _ (h : ℕ) (words : List ℕ) (w j n v left : ℕ) (l : List ℕ) (t : T
       let y = get_or words w 0 / 2 ^ (suc h - (j + k)) in
       let e : n - left + k ≡ n - (left - k) = omega arith in
       rw (q, ← e) (taken_more k y t (rest-field h words w j k g f))
+
+-- the words' lengths added up
+pub sum-is_length : (h : ℕ) (words : List ℕ) → sum_by (word_length h) words ≡ length (unstuff_from h words)
+unfolding unstuff_from
+sum-is_length h [] = refl
+sum-is_length h (w ∷ ws) =
+    sum_by-cons (word_length h) w ws
+    ∙ ap₂ ◌+◌ (sym (length-word h w)) (sum-is_length h ws)
+    ∙ sym (length-append (word_bits h w) (unstuff_from h ws))
+
+pub sum-most : (h : ℕ) → h < 16 → (words : List ℕ) → sum_by (word_length h) words ≤ 16 * length words
+sum-most h low [] = omega arith
+sum-most h low (w ∷ ws) = omega (arith, sum_by-cons (word_length h) w ws, word-length-most h w, sum-most h low ws)

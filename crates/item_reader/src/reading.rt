@@ -22,11 +22,8 @@ pub fn word_length(word: u16, h: usize) -> usize
     requires { h < 16 }
     ensures { result ≡ word_length h word }
 {
-    let first = (word as usize) / 2;
-    if first == 0 {
-        return h;
-    }
-    if first == (1usize << h) - 1 {
+    let first = usize::from(word) / 2;
+    if first == 0 || first == (1usize << h) - 1 {
         return h;
     }
     h + 1
@@ -39,13 +36,7 @@ pub fn stream_length(words: &[u16], h: usize) -> usize
     ensures value { result ≡ length (unstuff_from h words.now) }
     ensures upper_bound { result ≤ 1048576 }
 {
-    let mut n: usize = 0;
-    let mut i = words.len();
-    while 0 < i {
-        i -= 1;
-        n += word_length(words[i], h);
-    }
-    n
+    words.iter().map(|word| word_length(*word, h)).sum()
 }
 
 // k bits of a word, from a bit on.
@@ -54,20 +45,10 @@ fn word_part(word: u16, h: usize, bit: usize, k: usize) -> usize
     requires fact_2 { bit + k ≤ h + 1 }
     ensures { result ≡ word / 2 ^ (suc h - (bit + k)) % 2 ^ k }
 {
-    ((word as usize) >> (h + 1 - (bit + k))) % (1usize << k)
+    (usize::from(word) >> (h + 1 - (bit + k))) % (1usize << k)
 }
 
-fn smaller(a: usize, b: usize) -> usize
-    requires { (0 < a) × (0 < b) }
-    ensures { (0 < result) × (result ≤ a) × (result ≤ b) }
-{
-    if a < b {
-        return a;
-    }
-    b
-}
-
-// Takes n bits, as many of a word at once as it has left.
+// Takes n bits, as many of a word at once as it has left. A turn takes some of them or passes to the next word, so no range counts the turns.
 pub fn take_bits(words: &[u16], h: usize, place: Place, n: usize) -> Bits
     requires h_bound_1 { h < 16 }
     requires h_bound_2 { n ≤ 16 }
@@ -86,18 +67,15 @@ pub fn take_bits(words: &[u16], h: usize, place: Place, n: usize) -> Bits
             bit -= size;
             word += 1;
         } else {
-            let k = smaller(left, size - bit);
+            let k = left.min(size - bit);
             value = (value << k) + word_part(x, h, bit, k);
             bit += k;
             left -= k;
         }
     }
     Bits {
-        value: value,
-        next: Place {
-            word: word,
-            bit: bit,
-        },
+        value,
+        next: Place { word, bit },
     }
 }
 
@@ -109,18 +87,19 @@ pub fn forward(words: &[u16], h: usize, place: Place, n: usize) -> Place
     ensures bit_value { rest h words.now result.word result.bit ≡ drop n (rest h words.now place.word place.bit) }
     ensures bit_bound { result.bit ≤ 16 }
 {
-    let mut word = place.word;
+    if n == 0 {
+        return place;
+    }
     let mut bit = place.bit + n;
-    while word < words.len() {
+    for word in place.word..words.len() {
         let size = word_length(words[word], h);
         if bit < size {
-            return Place {
-                word: word,
-                bit: bit,
-            };
+            return Place { word, bit };
         }
         bit -= size;
-        word += 1;
     }
-    Place { word: word, bit: 0 }
+    Place {
+        word: words.len(),
+        bit: 0,
+    }
 }

@@ -1,64 +1,59 @@
 // The fields of a line after the record's number, each put after a space.
-ghost use Rattle.std.specs.Prelude.{◌≡◌, ◌+◌, ◌≤◌, length};
+ghost use Rattle.std.specs.Prelude.{◌≡◌, ◌+◌, ◌≤◌, ◌++◌, length};
 ghost use Rattle.listing.specs.Decimal.{decimal};
 ghost use Rattle.listing.specs.Line.{field, shape_name, answer_fields};
-ghost use Rattle.list_laws.specs.Putting.{Put};
 
-use crate::decimal::put_number;
+use crate::decimal::push_number;
 use encoder::Encoded;
+use text_line::Line;
 
-pub fn put_word(word: &[u8], line: &mut [u8], at: usize) -> usize
-    requires { at + length (field word.now) ≤ length line.old }
-    ensures { Put (field word.now) line.old at line.new result }
+pub fn push_word(word: &[u8], line: &mut Line<64>)
+    requires { length line.old + length (field word.now) ≤ 64 }
+    ensures put { line.new ≡ line.old ++ field word.now }
+    ensures length { length line.new ≡ length line.old + length (field word.now) }
 {
-    line[at] = b' ';
-    let from = at + 1;
-    let mut i = 0;
-    while i < word.len() {
-        line[from + i] = word[i];
-        i += 1;
-    }
-    from + i
+    line.push(b' ');
+    line.push_all(word);
 }
 
-fn put_value(n: u32, line: &mut [u8], at: usize) -> usize
-    requires { at + 11 ≤ length line.old }
-    ensures put { Put (field (decimal n)) line.old at line.new result }
-    ensures upper_bound { result ≤ at + 11 }
+fn push_value(n: u32, line: &mut Line<64>)
+    requires { length line.old + 11 ≤ 64 }
+    ensures put { line.new ≡ line.old ++ field (decimal n) }
+    ensures upper_bound { length line.new ≤ length line.old + 11 }
 {
-    line[at] = b' ';
-    put_number(n as usize, line, at + 1)
+    line.push(b' ');
+    push_number(n as usize, line);
 }
 
 // C and the number, or F and the number less 4.
-fn put_shape(shape: u32, line: &mut [u8], at: usize) -> usize
+fn push_shape(shape: u32, line: &mut Line<64>)
     requires fact_1 { shape ≤ 36 }
-    requires fact_2 { at + 4 ≤ length line.old }
-    ensures put { Put (field (shape_name shape)) line.old at line.new result }
-    ensures upper_bound { result ≤ at + 4 }
+    requires fact_2 { length line.old + 4 ≤ 64 }
+    ensures put { line.new ≡ line.old ++ field (shape_name shape) }
+    ensures upper_bound { length line.new ≤ length line.old + 4 }
 {
-    line[at] = b' ';
+    line.push(b' ');
     if 4 < shape {
-        line[at + 1] = b'F';
-        return put_number((shape - 4) as usize, line, at + 2);
+        line.push(b'F');
+        return push_number((shape - 4) as usize, line);
     }
-    line[at + 1] = b'C';
-    put_number(shape as usize, line, at + 2)
+    line.push(b'C');
+    push_number(shape as usize, line);
 }
 
 // Shape, side, D and K, or the refusal's number.
-pub fn put_answer(answer: Encoded, line: &mut [u8], at: usize) -> usize
+pub fn push_answer(answer: Encoded, line: &mut Line<64>)
     requires fact_1 { answer.shape ≤ 36 }
-    requires fact_2 { at + 37 ≤ length line.old }
-    ensures put { Put (answer_fields answer) line.old at line.new result }
-    ensures upper_bound { result ≤ at + 37 }
+    requires fact_2 { length line.old + 37 ≤ 64 }
+    ensures put { line.new ≡ line.old ++ answer_fields answer }
+    ensures upper_bound { length line.new ≤ length line.old + 37 }
 {
     if answer.number != 0 {
-        let number_at = put_word(b"refused", line, at);
-        return put_value(answer.number, line, number_at);
+        push_word(b"refused", line);
+        return push_value(answer.number, line);
     }
-    let side_at = put_shape(answer.shape, line, at);
-    let data_at = put_value(answer.side, line, side_at);
-    let check_at = put_value(answer.data_words, line, data_at);
-    put_value(answer.check_words, line, check_at)
+    push_shape(answer.shape, line);
+    push_value(answer.side, line);
+    push_value(answer.data_words, line);
+    push_value(answer.check_words, line);
 }

@@ -4,59 +4,46 @@
 mod decimal;
 mod fields;
 
-ghost use Rattle.std.specs.Prelude.{◌≡◌, ◌+◌, ◌*◌, ◌-◌, ◌≤◌, ◌<◌, ◌^◌, min, length, drop};
+ghost use Rattle.std.specs.Prelude.{◌≡◌, ◌+◌, ◌*◌, ◌≤◌, ◌<◌, ◌^◌, ◌++◌, length};
 ghost use Rattle.listing.specs.Line.{all_zero, sound, record_fields, line_of, records, lines_from};
-ghost use Rattle.list_laws.specs.Putting.{Put, at_front};
+ghost use Rattle.list_laws.specs.Putting.{at_front};
 
-use decimal::put_number;
-use fields::{put_answer, put_word};
+use decimal::push_number;
+use fields::{push_answer, push_word};
+use text_line::Line;
 
 const RECORD: usize = 32;
 
-// Whether the bytes from place `from` on are 0.
-fn is_zero_from(bytes: &[u8], from: usize) -> bool
-    requires { from ≤ length bytes.now }
-    ensures { result ≡ all_zero (drop from bytes.now) }
+fn is_zero(bytes: &[u8]) -> bool
+    ensures { result ≡ all_zero bytes.now }
 {
-    let mut i = from;
-    while i < bytes.len() {
-        if bytes[i] != 0 {
-            return false;
-        }
-        i += 1;
-    }
-    true
+    bytes.iter().all(|byte| *byte == 0)
 }
 
 // Whether the record is whole, its length 1 to 30 and its unused bytes 0.
+#[tactic(auto, unfolding(crate::specs::Line::sound, crate::specs::Line::message_length, crate::specs::Line::unused))]
 fn is_sound(record: &[u8]) -> bool
     ensures { result ≡ sound «record».now }
 {
     if record.len() != RECORD {
         return false;
     }
-    let length = record[0] as usize;
-    if length < 1 {
-        return false;
-    }
-    if 30 < length {
-        return false;
-    }
-    is_zero_from(record, 2 + length)
+    let length = usize::from(record[0]);
+    (1..=30).contains(&length) && is_zero(&record[2 + length..])
 }
 
 // What stands after the record's number.
-fn put_record(record: &[u8], line: &mut [u8], at: usize) -> usize
-    requires { at + 37 ≤ length line.old }
-    ensures put { Put (record_fields «record».now) line.old at line.new result }
-    ensures upper_bound { result ≤ at + 37 }
+fn push_record(record: &[u8], line: &mut Line<64>)
+    requires { length line.old + 37 ≤ 64 }
+    ensures put { line.new ≡ line.old ++ record_fields «record».now }
+    ensures upper_bound { length line.new ≤ length line.old + 37 }
 {
     if !is_sound(record) {
-        return put_word(b"bad", line, at);
+        return push_word(b"bad", line);
     }
-    let end = 2 + record[0] as usize;
-    let answer = encoder::plan(&record[2..end], record[1] as u32);
-    put_answer(answer, line, at)
+    let end = 2 + usize::from(record[0]);
+    let answer = encoder::plan(&record[2..end], u32::from(record[1]));
+    push_answer(answer, line);
 }
 
 // Writes the line of a record to the front of `line`, and answers its length. There is room in 64 bytes: 20 digits of a number, 3 bytes of
@@ -67,21 +54,11 @@ pub fn write_line(number: usize, record: &[u8], line: &mut [u8]) -> usize
     ensures line_after { line.new ≡ at_front (line_of number «record».now) line.old }
     ensures upper_bound { result ≤ 64 }
 {
-    let at = put_number(number, line, 0);
-    let end = put_record(record, line, at);
-    line[end] = b'\n';
-    end + 1
-}
-
-// Where the record that starts at `start` ends.
-fn record_end(start: usize, length: usize) -> usize
-    requires { start ≤ length }
-    ensures { result ≡ start + min 32 (length - start) }
-{
-    if length - start < RECORD {
-        return length;
-    }
-    start + RECORD
+    let mut text = Line::new();
+    push_number(number, &mut text);
+    push_record(record, &mut text);
+    text.push(b'\n');
+    text.put_front(line)
 }
 
 // Writes the lines of the records that `bytes` holds, the last of which may be short, to the front of `lines`, numbered from
@@ -92,14 +69,9 @@ pub fn write_lines(bytes: &[u8], first: usize, lines: &mut [u8]) -> usize
     ensures value { result ≡ length (lines_from first bytes.now) }
     ensures lines_after { lines.new ≡ at_front (lines_from first bytes.now) lines.old }
 {
-    let count = (bytes.len() + 31) / RECORD;
-    let mut k = 0;
     let mut at = 0;
-    while k < count {
-        let start = RECORD * k;
-        let end = record_end(start, bytes.len());
-        at += write_line(first + k, &bytes[start..end], &mut lines[at..]);
-        k += 1;
+    for (k, record) in bytes.chunks(RECORD).enumerate() {
+        at += write_line(first + k, record, &mut lines[at..]);
     }
     at
 }

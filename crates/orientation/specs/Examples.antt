@@ -1,7 +1,7 @@
 -- Worked examples, no part of what the crate promises: matches, positions, families and sides as a program that was written apart from
 -- these definitions gives them.
 -- Assumes nothing.
-use Rattle.std.specs.Prelude.{◌≡◌, refl, Bool, true, false, List, [], ◌∷◌, map, ℕ, zero, suc, ◌+◌, ◌*◌, length, get_or, replicate}
+use Rattle.std.specs.Prelude.{◌≡◌, refl, Bool, true, false, List, [], ◌∷◌, map, ℕ, zero, suc, ◌+◌, ◌*◌, length, get_or, replicate, Result, Ok, Err}
 use Rattle.std.proofs.Math.Option.{Option, none, some}
 use Rattle.list_laws.specs.Range.{count, all}
 use Rattle.list_laws.specs.Search.{first_from}
@@ -10,7 +10,7 @@ use Rattle.symbol.specs.Shapes.{side, core, is_full, layers}
 use Rattle.symbol.specs.Places.{turned, core_place, orientation_cell, orientation_place}
 use Rattle.symbol.specs.Drawing.{orientation_bits}
 use Rattle.symbol.specs.Positions.{place_in}
-use Rattle.orientation.specs.declared.position.Placement.TheVariants.{At, Nowhere}
+use Rattle.orientation.specs.declared.position.Unplaced.{Unplaced}
 use Rattle.orientation.specs.Position.{matches, single, position}
 use Rattle.orientation.specs.Greatest.{most}
 use Rattle.orientation.specs.Masks.{mask_from}
@@ -66,9 +66,13 @@ unfolding turns painted writes matches count place_in turned orientation_place o
     all first_from
 positions-right = refl
 
+-- no position: the best match count, and the positions that have it
+abbrev unplaced : ℕ → ℕ → Result ℕ Unplaced
+unplaced best positions = Err (record { best = best; positions = positions })
+
 -- of those without a position, positions 0 and 4 have 10 matches, 0 alone 8, and all eight none
 pub placements-right : map (λ (c : Turned). placement_of c.full c.side c.grid) turns
-    ≡ At 0 ∷ At 1 ∷ At 2 ∷ At 3 ∷ At 4 ∷ At 5 ∷ At 6 ∷ At 7 ∷ At 1 ∷ At 6 ∷ Nowhere 10 17 ∷ At 4 ∷ At 0 ∷ Nowhere 8 1 ∷ Nowhere 0 255 ∷ []
+    ≡ Ok 0 ∷ Ok 1 ∷ Ok 2 ∷ Ok 3 ∷ Ok 4 ∷ Ok 5 ∷ Ok 6 ∷ Ok 7 ∷ Ok 1 ∷ Ok 6 ∷ unplaced 10 17 ∷ Ok 4 ∷ Ok 0 ∷ unplaced 8 1 ∷ unplaced 0 255 ∷ []
 unfolding turns painted writes matches count place_in turned orientation_place orientation_cell core_place core orientation_bits position single
     all first_from best_matches best_positions most mask_from
 placements-right = refl

@@ -50,6 +50,10 @@ module _ (s : ℕ → ℕ) where
   unfolding most
   most-none = refl
 
+  pub most-next : (n : ℕ) {m : ℕ} → m ≡ most s n → max m (s n) ≡ most s (n + 1)
+  unfolding most
+  most-next n e = rw add-one (ap (λ m. max m (s n)) e)
+
   pub most-more : (n : ℕ) {m : ℕ} → m ≡ most s n → m < s n → s n ≡ most s (n + 1)
   unfolding most
   most-more n e h = rw add-one (omega arith)

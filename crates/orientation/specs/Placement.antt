@@ -1,13 +1,12 @@
 -- Where the twelve orientation modules put a grid, and if nowhere, why (document 02, 6/12, "Why did it say that?").
 -- Assumes nothing.
-use Rattle.std.specs.Prelude.{◌≡◌, refl, ◌≢◌, ◌⊎◌, Bool, true, false, List, ℕ, zero, suc, ◌≤◌, ◌<◌, eqb, ltb, leb}
+use Rattle.std.specs.Prelude.{◌≡◌, refl, ◌≢◌, ◌⊎◌, Bool, true, false, List, ℕ, zero, suc, ◌≤◌, ◌<◌, eqb, ltb, leb, Result, Ok, Err}
 use Rattle.std.proofs.Math.Path.{ap}
 use Rattle.std.proofs.Common.{◌∙◌, inl, inr, arith, zero-add, ltb-true, ltb-false, leb-true, leb-false}
 use Rattle.std.proofs.Math.Option.{Option, none, some}
 use Rattle.std.proofs.Math.Decide.{ℕ_discrete}
 use Rattle.list_laws.specs.Range.{one, count_most, up_to}
-use Rattle.orientation.specs.declared.position.Placement.{Placement}
-use Rattle.orientation.specs.declared.position.Placement.TheVariants.{At, Nowhere}
+use Rattle.orientation.specs.declared.position.Unplaced.{Unplaced}
 use Rattle.orientation.specs.Position.{matches, position}
 use Rattle.orientation.specs.PositionLaws.{none-best}
 use Rattle.orientation.specs.Greatest.{most, most-at, most-some}
@@ -22,11 +21,11 @@ unfoldable pub best_positions : Bool → ℕ → List ℕ → ℕ
 best_positions f n g = mask_from (λ p. eqb (matches f n g p) (best_matches f n g)) 0 8
 
 -- by the position that is taken
-abbrev pub placement_for : Bool → ℕ → List ℕ → Option ℕ → Placement
-placement_for f n g (some p) = At p
-placement_for f n g none = Nowhere (best_matches f n g) (best_positions f n g)
+abbrev pub placement_for : Bool → ℕ → List ℕ → Option ℕ → Result ℕ Unplaced
+placement_for f n g (some p) = Ok p
+placement_for f n g none = Err (record { best = best_matches f n g; positions = best_positions f n g })
 
-abbrev pub placement_of : Bool → ℕ → List ℕ → Placement
+abbrev pub placement_of : Bool → ℕ → List ℕ → Result ℕ Unplaced
 placement_of f n g = placement_for f n g (position f n g)
 
 -- What they say of a grid

@@ -2,6 +2,8 @@
 -- Assumes nothing.
 use Rattle.std.specs.Prelude.{Bool, ◌&&◌, ◌||◌, List, ℕ, eqb, ltb, leb, get_or}
 use Rattle.std.proofs.Math.Option.{Option, none, some}
+use Rattle.std.specs.declared.option.Option.{Option as Given}
+use Rattle.std.specs.declared.option.Option.TheVariants.{None, Some}
 use Rattle.list_laws.specs.Range.{count, all}
 use Rattle.list_laws.specs.Search.{first_from}
 use Rattle.symbol.specs.Places.{orientation_place}
@@ -20,7 +22,7 @@ single s p = leb 9 (s p) && all 8 (λ q. eqb q p || ltb (s q) (s p))
 unfoldable pub position : Bool → ℕ → List ℕ → Option ℕ
 position f n g = first_from (single (matches f n g)) 0 8
 
--- the position as code names it: 0 to 7, or 8 for none
-abbrev pub position_number : Option ℕ → ℕ
-position_number none = 8
-position_number (some p) = p
+-- the position as code gives it
+abbrev pub position_given : Option ℕ → Given ℕ
+position_given none = None
+position_given (some p) = Some p

@@ -7,13 +7,8 @@ pub fn all_lawful(grid: &[u8]) -> bool
     ensures { result ≡ lawful_modules grid.now }
 {
     let mut most: u8 = 0;
-    let mut k = 0;
-    while k < grid.len() {
-        let value = grid[k];
-        if most < value {
-            most = value;
-        }
-        k += 1;
+    for module in grid {
+        most = most.max(*module);
     }
     most <= 2
 }

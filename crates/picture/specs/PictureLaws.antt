@@ -1,7 +1,7 @@
 -- How the lines grow, column by column, and how long they get.
 -- Assumes nothing.
 use Rattle.std.specs.Prelude.{◌≡◌, refl, Bool, true, false, ◌&&◌, List, ◌++◌, ℕ, zero, suc, ◌+◌, ◌*◌, ◌-◌, ◌≤◌, ◌<◌, length, leb, ltb}
-use Rattle.std.proofs.Common.{sym, mul-le-mul_right, arith, add-one, length-append, leb-true, ltb-true}
+use Rattle.std.proofs.Common.{sym, ap, ap₂, ◌∙◌, append_assoc, append-nil, mul-le-mul_right, arith, add-one, length-append, leb-true, ltb-true}
 use Rattle.picture.specs.Picture.{extent, inside, dark, joined, glyph, upper, two_rows, black_on_white, white, reset, pair_line, half_line}
 use Rattle.list_laws.specs.Putting.{Put, put_same, put-none, put_then}
 
@@ -40,6 +40,14 @@ put_next f n p q = put_same (sym (joined-suc f n)) (put_then p q)
 pub put-start : (f : ℕ → List ℕ) (l : List ℕ) (from : ℕ) → Put (joined f 0) l from l from
 unfolding joined
 put-start f l from = put-none l from
+
+-- the same of a line that grows at its end
+pub grown_next : (f : ℕ → List ℕ) (n : ℕ) (a : List ℕ) {l m t : List ℕ} → l ≡ a ++ joined f n → m ≡ l ++ t → t ≡ f n → m ≡ a ++ joined f (n + 1)
+grown_next f n a p q e = q ∙ ap₂ (λ x y. x ++ y) p e ∙ append_assoc a (joined f n) (f n) ∙ ap (λ x. a ++ x) (sym (joined-suc f n))
+
+pub grown-start : (f : ℕ → List ℕ) (l : List ℕ) → l ≡ l ++ joined f 0
+unfolding joined
+grown-start f l = sym (append-nil l)
 
 -- no column takes more than three bytes
 pub rows-length : (grid : List ℕ) (side row n : ℕ) → length (joined (two_rows grid side row) n) ≤ 3 * n

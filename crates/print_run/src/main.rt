@@ -8,11 +8,14 @@
 // `lines` comes out, and what is said on standard error.
 #![tactic(auto)]
 
-ghost use Rattle.std.specs.Prelude.{◌≡◌, true, ◌≤◌, ◌<◌, ◌^◌, length, take};
+ghost use Rattle.std.specs.Prelude.{◌≡◌, ◌≤◌, ◌<◌, ◌^◌, take, IfOk};
 ghost use Rattle.list_laws.specs.Putting.{at_front};
 ghost use Rattle.listing.specs.Line.{lines_from};
+ghost use Rattle.print_run.specs.Listed.{listed};
 
+use input::Failed;
 use std::fs::File;
+use std::io;
 use std::io::Read;
 use std::rt::{Env, Files};
 
@@ -26,97 +29,74 @@ const LINES: usize = 65536;
 // One byte more than a path may have.
 const PATH: usize = 4096;
 
-// A loop that is proved has to end, and nothing says that the input does. No run has so many records.
-const MOST_RECORDS: usize = 1 << 63;
+// A loop that is proved has to end, and nothing says that the input does. No run has so many blocks: they hold 2^63 records.
+const MOST_BLOCKS: usize = 1 << 53;
 
-// What was listed: the lines of how many bytes, and whether more may follow.
+// What ended the listing before the input did.
 #[derive(Drop)]
-pub struct Listed {
-    pub length: usize,
-    pub more: bool,
+enum Failure {
+    // A read failed, with nothing of its block listed.
+    Reading(io::Error),
+    // The lines of so many bytes were made, and could not be written.
+    Writing { length: usize, error: io::Error },
 }
 
-// Reads a block and writes its lines, numbered from `first`: the front of `lines`. Where a read fails, nothing of the block is listed.
+impl From<Failed> for Failure {
+    ghost use Rattle.std.specs.Prelude.{◌≡◌};
+    ghost use Rattle.print_run.specs.declared.Failure.TheVariants.{Reading};
+
+    ghost from_gives = { λ failed failure. failure ≡ Reading failed.error };
+
+    fn from(failed: Failed) -> Failure {
+        Failure::Reading(failed.error)
+    }
+}
+
+// Reads a block and writes its lines, numbered from `first`: the front of `lines`. Answers how many bytes of the block it listed.
 fn list_block(
-    rt: &(impl Print + Eprint),
+    rt: &impl Print,
     reader: &mut impl Read,
-    name: &str,
     first: usize,
-    block: &mut [u8],
-    lines: &mut [u8],
-) -> Listed
-    requires fact_1 { first < 2 ^ 63 }
-    requires fact_2 { length block.old ≡ 32768 }
-    requires fact_3 { length lines.old ≡ 65536 }
-    ensures lines_after { lines.new ≡ at_front (lines_from first (take result.length block.new)) lines.old }
-    ensures length_value { result.more ≡ true → result.length ≡ 32768 }
+    block: &mut [u8; BLOCK],
+    lines: &mut [u8; LINES],
+) -> Result<usize, Failure>
+    requires { first < 2 ^ 63 }
+    ensures lines_after { lines.new ≡ at_front (lines_from first (take (listed result) block.new)) lines.old }
+    ensures within { IfOk result (λ n. n ≤ 32768) }
 {
-    let filled = input::fill(reader, block);
-    if let Some(error) = filled.failed {
-        input::fail(rt, name, &error);
-        return Listed {
-            length: 0,
-            more: false,
-        };
-    }
-    let length = filled.length;
+    let length = input::fill(reader, block)?;
     let written = listing::write_lines(&block[..length], first, lines);
-    if let Err(error) = rt.write_all(&lines[..written]) {
-        input::fail(rt, "standard output", &error);
-        return Listed {
-            length: length,
-            more: false,
-        };
-    }
-    Listed {
-        length: length,
-        more: length == BLOCK,
-    }
+    rt.write_all(&lines[..written])
+        .map_err(|error| Failure::Writing { length, error })?;
+    Ok(length)
 }
 
 // Block after block, until one is not full or something goes wrong.
 fn list_all(
-    rt: &(impl Print + Eprint),
+    rt: &impl Print,
     reader: &mut impl Read,
-    name: &str,
-    block: &mut [u8],
-    lines: &mut [u8],
-)
-    requires fact_1 { length block.old ≡ 32768 }
-    requires fact_2 { length lines.old ≡ 65536 }
-{
-    let mut first: usize = 1;
-    while first < MOST_RECORDS {
-        let listed = list_block(rt, reader, name, first, block, lines);
-        if !listed.more {
-            return;
+    block: &mut [u8; BLOCK],
+    lines: &mut [u8; LINES],
+) -> Result<(), Failure> {
+    for k in 0..MOST_BLOCKS {
+        let length = list_block(rt, reader, 1 + BLOCK_RECORDS * k, block, lines)?;
+        if length < BLOCK {
+            return Ok(());
         }
-        first += BLOCK_RECORDS;
+        // Only a full block is followed by another.
+        prove!(length == BLOCK);
     }
-}
-
-fn empty_block() -> [u8; BLOCK]
-    ensures { 32768 ≡ length result }
-{
-    [0; BLOCK]
-}
-
-fn empty_lines() -> [u8; LINES]
-    ensures { 65536 ≡ length result }
-{
-    [0; LINES]
-}
-
-fn empty_path() -> [u8; PATH]
-    ensures { 4096 ≡ length result }
-{
-    [0; PATH]
+    Ok(())
 }
 
 fn list(rt: &(impl Print + Eprint), reader: &mut impl Read, name: &str) {
-    let mut block = empty_block();
-    let mut lines = empty_lines();
-    list_all(rt, reader, name, &mut block, &mut lines);
+    let mut block = [0; BLOCK];
+    let mut lines = [0; LINES];
+    match list_all(rt, reader, &mut block, &mut lines) {
+        Ok(()) => {}
+        Err(Failure::Reading(error)) => input::fail(rt, name, &error),
+        Err(Failure::Writing { length: _, error }) => input::fail(rt, "standard output", &error),
+    }
 }
 
 // Lists the file that an argument names.
@@ -141,7 +121,7 @@ fn main(rt: HostRuntime) {
         list(&rt, &mut rt.stdin(), "standard input");
         return;
     }
-    let mut path = empty_path();
+    let mut path = [0; PATH];
     match rt.arg(1, &mut path) {
         Ok(length) => list_file(&rt, &path[..length]),
         Err(_) => {

@@ -1,18 +1,16 @@
 -- The two cases of an input, and that a message fits its buffer.
 -- Assumes nothing.
-use Rattle.std.proofs.Math.Path.{◌≡◌, sym, subst}
-use Rattle.std.specs.Prelude.{refl, Bool, List, eqb}
-use Rattle.std.proofs.Math.Bool.{true, false, cond}
+use Rattle.std.proofs.Math.Path.{◌≡◌, sym, subst, ap}
+use Rattle.std.specs.Prelude.{List, eqb, Option, Some, None}
 use Prim.Native.Nat.{ℕ, zero, suc, ◌+◌, ◌*◌, ◌/◌, ◌≤◌}
-use Rattle.std.proofs.Common.{mul-le-mul, arith, eq-eqb, ne_eqb}
+use Rattle.std.proofs.Common.{mul-le-mul}
 use Rattle.std.proofs.Math.ListN.{length}
 use Rattle.decoder.specs.declared.Decoded.{Decoded}
 use Rattle.decoder.specs.Kept.{Kept, refused-kept, pick, decode-kept}
 use Rattle.grid_text.specs.Border.{inner_side, inner, light_ring}
 use Rattle.grid_text.specs.Grid.{modules_of}
-use Rattle.read_tag.specs.declared.text.Reading.TheVariants.{NoGrid, Tag}
 use Rattle.read_tag.specs.Within.{told_at, read_inside, read_from, read_within}
-use Rattle.read_tag.specs.Text.{text_side, text_result, reading_of, message_of}
+use Rattle.read_tag.specs.Text.{text_side, text_result, reading_at, reading_of, message_at, message_of}
 
 module _ (g : List ℕ) (side : ℕ) (buffer : List ℕ) where
   from-kept : (n rings before : ℕ) → Kept buffer (read_from g side buffer n rings before)
@@ -28,24 +26,25 @@ module _ (g : List ℕ) (side : ℕ) (buffer : List ℕ) where
   within-kept = from-kept ((side + 1) / 2) 0 11
 
 module _ (bytes buffer : List ℕ) where
-  pub no-grid : text_side bytes ≡ 0 → (NoGrid ≡ reading_of bytes buffer) × (buffer ≡ message_of bytes buffer)
+  pub no-grid : text_side bytes ≡ None → (None ≡ reading_of bytes buffer) × (buffer ≡ message_of bytes buffer)
   unfolding reading_of message_of
-  no-grid e = (sym (rw (eq-eqb (text_side bytes) 0 e) refl), sym (rw (eq-eqb (text_side bytes) 0 e) refl))
+  no-grid e = (sym (ap (λ o. reading_at o bytes buffer) e), sym (ap (λ o. message_at o bytes buffer) e))
 
-  pub tag_read : (text_side bytes ≡ 0 → ⊥)
-      → (Tag (text_result bytes buffer).answer ≡ reading_of bytes buffer) × ((text_result bytes buffer).message ≡ message_of bytes buffer)
+  pub tag_read : (side : ℕ) → text_side bytes ≡ Some side
+      → (Some (text_result bytes side buffer).answer ≡ reading_of bytes buffer)
+      × ((text_result bytes side buffer).message ≡ message_of bytes buffer)
   unfolding reading_of message_of
-  tag_read n = (sym (rw (ne_eqb (text_side bytes) 0 n) refl), sym (rw (ne_eqb (text_side bytes) 0 n) refl))
+  tag_read side e = (sym (ap (λ o. reading_at o bytes buffer) e), sym (ap (λ o. message_at o bytes buffer) e))
 
-  pub message-fits : (d : Decoded) → Tag d ≡ reading_of bytes buffer → d.length ≤ length buffer
+  pub message-fits : (d : Decoded) → Some d ≡ reading_of bytes buffer → d.length ≤ length buffer
   unfolding reading_of
-  message-fits d = go (eqb (text_side bytes) 0)
+  message-fits d = go (text_side bytes)
     where
-      go : (b : Bool) → Tag d ≡ cond b NoGrid (Tag (text_result bytes buffer).answer) → d.length ≤ length buffer
-      go true e = absurd (let z : ◌≡◌ {A = ℕ} 0 1 = cc in omega arith)
-      go false e =
-          let same : d ≡ (text_result bytes buffer).answer = cc in
-          subst (λ a. a.length ≤ length buffer) (sym same) (within-kept (modules_of bytes) (text_side bytes) buffer).fits
+      go : (o : Option ℕ) → Some d ≡ reading_at o bytes buffer → d.length ≤ length buffer
+      go None e = absurd (cc)
+      go (Some side) e =
+          let same : d ≡ (text_result bytes side buffer).answer = cc in
+          subst (λ a. a.length ≤ length buffer) (sym same) (within-kept (modules_of bytes) side buffer).fits
 
 pub square-most : (n : ℕ) → n ≤ 255 → n * n ≤ 65025
 square-most n h = mul-le-mul h h

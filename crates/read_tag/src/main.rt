@@ -10,10 +10,6 @@ mod saying;
 mod text;
 mod within;
 
-ghost use Rattle.std.specs.Prelude.{◌≡◌, length};
-
-use text::Reading;
-
 // One byte more than is taken, so that an input that is too long shows.
 const INPUT: usize = 262145;
 
@@ -27,13 +23,11 @@ const MESSAGE: usize = 8192;
 fn read_bytes(
     rt: &(impl Print + Eprint),
     bytes: &[u8],
-    grid: &mut [u8],
-    inner: &mut [u8],
+    grid: &mut [u8; MODULES],
+    inner: &mut [u8; MODULES],
     message: &mut [u8],
-)
-    requires { (length grid.old ≡ 65025) × (length inner.old ≡ 65025) }
-{
-    let Reading::Tag(answer) = text::read_text(bytes, grid, inner, message) else {
+) {
+    let Some(answer) = text::read_text(bytes, grid, inner, message) else {
         let _ = eprintln!(rt; "no grid: expected a portable bitmap (P1) or rows of 0, 1, 2 and ?");
         return;
     };
@@ -44,49 +38,25 @@ fn read_bytes(
 fn read_input(
     rt: &(impl Input + Print + Eprint),
     buffer: &mut [u8],
-    grid: &mut [u8],
-    inner: &mut [u8],
+    grid: &mut [u8; MODULES],
+    inner: &mut [u8; MODULES],
     message: &mut [u8],
-)
-    requires { (length grid.old ≡ 65025) × (length inner.old ≡ 65025) }
-{
-    let filled = input::fill(&mut rt.reader(), buffer);
-    if let Some(error) = filled.failed {
-        input::fail(rt, "standard input", &error);
-        return;
+) {
+    match input::fill(&mut rt.reader(), buffer) {
+        Ok(length) if length == buffer.len() => {
+            let _ = eprintln!(rt; "no grid: the input is longer than 262,144 bytes");
+        }
+        Ok(length) => read_bytes(rt, &buffer[..length], grid, inner, message),
+        Err(failed) => input::fail(rt, "standard input", &failed.error),
     }
-    let length = filled.length;
-    if length == buffer.len() {
-        let _ = eprintln!(rt; "no grid: the input is longer than 262,144 bytes");
-        return;
-    }
-    read_bytes(rt, &buffer[..length], grid, inner, message);
-}
-
-fn empty_input() -> [u8; INPUT]
-    ensures { 262145 ≡ length result }
-{
-    [0; INPUT]
-}
-
-fn empty_grid() -> [u8; MODULES]
-    ensures { 65025 ≡ length result }
-{
-    [0; MODULES]
-}
-
-fn empty_message() -> [u8; MESSAGE]
-    ensures { 8192 ≡ length result }
-{
-    [0; MESSAGE]
 }
 
 // The arrays come first, before any test (docs/DECISIONS.md, "The compiler").
 fn read(rt: &(impl Input + Print + Eprint)) {
-    let mut buffer = empty_input();
-    let mut grid = empty_grid();
-    let mut inner = empty_grid();
-    let mut message = empty_message();
+    let mut buffer = [0; INPUT];
+    let mut grid = [0; MODULES];
+    let mut inner = [0; MODULES];
+    let mut message = [0; MESSAGE];
     read_input(rt, &mut buffer, &mut grid, &mut inner, &mut message);
 }
 

@@ -41,8 +41,7 @@ pub fn read_within(grid: &[u8], side: usize, inner: &mut [u8], message: &mut [u8
 {
     let most = (side + 1) / 2;
     let mut refusal: u32 = 11;
-    let mut rings = 0;
-    while rings < most {
+    for rings in 0..most {
         let answer = read_inside(grid, side, rings, inner, message);
         if answer.number == 0 {
             return answer;
@@ -51,7 +50,6 @@ pub fn read_within(grid: &[u8], side: usize, inner: &mut [u8], message: &mut [u8
         if !border::is_light_ring(grid, side, rings) {
             return decoder::delivering::refused(refusal);
         }
-        rings += 1;
     }
     decoder::delivering::refused(refusal)
 }

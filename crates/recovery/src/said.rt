@@ -1,7 +1,8 @@
 // What corrected mode words say, and whether it can be so.
 ghost use Rattle.std.specs.Prelude.{◌≡◌, ◌≤◌, ◌<◌, length, get_or};
-ghost use Rattle.recovery.specs.Stages.{said_layers, said_words, side_failed, words_failed, failed_mode};
+ghost use Rattle.recovery.specs.Stages.{said_layers, said_words, failed_mode};
 ghost use Rattle.recovery.specs.Said.{Nibbles};
+ghost use Rattle.recovery.specs.FailedMode.{failed_number, failed_conditions};
 
 use symbol::shapes;
 
@@ -16,6 +17,7 @@ fn nibble(words: &[u16], i: usize) -> usize
 }
 
 // L: the first 2 bits say L − 1 (compact), or the first 5 (full).
+#[tactic(auto, unfolding(crate::specs::Stages::said_layers))]
 pub fn said_layers(full: bool, words: &[u16]) -> usize
     requires fact_1 { 4 ≤ length words.now }
     requires fact_2 { Nibbles words.now }
@@ -28,6 +30,7 @@ pub fn said_layers(full: bool, words: &[u16]) -> usize
 }
 
 // D: the next 6 bits say D − 1 (compact), or the next 11 (full).
+#[tactic(auto, unfolding(crate::specs::Stages::said_words))]
 pub fn said_words(full: bool, words: &[u16]) -> usize
     requires fact_1 { 4 ≤ length words.now }
     requires fact_2 { Nibbles words.now }
@@ -39,32 +42,26 @@ pub fn said_words(full: bool, words: &[u16]) -> usize
     nibble(words, 0) % 4 * 16 + nibble(words, 1) + 1
 }
 
-// 1 if L doesn't give this side.
-fn side_failed(full: bool, n: usize, layers: usize) -> u32
-    requires { layers ≤ 32 }
-    ensures { result ≡ side_failed full n layers }
-{
-    if shapes::side_of(full, layers) != n {
-        return 1;
-    }
-    0
+// Which of the conditions on L and D fail: that L gives the side, that D leaves 3 check words.
+#[derive(Clone, Copy, Debug, PartialEq, Eq)]
+pub enum Failed {
+    Side,
+    Words,
+    Both,
 }
 
-// 2 if D leaves fewer than 3 check words.
-fn words_failed(full: bool, layers: usize, data_words: usize) -> u32
+// The conditions that fail, if any.
+pub fn failed_of(full: bool, n: usize, layers: usize, data_words: usize) -> Option<Failed>
     requires { (layers ≤ 32) × (data_words ≤ 2048) }
-    ensures { result ≡ words_failed full layers data_words }
+    ensures value { result ≡ failed_conditions full n layers data_words }
+    ensures number { failed_number result ≡ failed_mode full n layers data_words }
 {
-    if data_words + 3 <= shapes::words_of(full, layers) {
-        return 0;
+    let side_holds = shapes::side_of(full, layers) == n;
+    let words_hold = data_words + 3 <= shapes::words_of(full, layers);
+    match (side_holds, words_hold) {
+        (true, true) => None,
+        (false, true) => Some(Failed::Side),
+        (true, false) => Some(Failed::Words),
+        (false, false) => Some(Failed::Both),
     }
-    2
-}
-
-// Which of the two conditions fail: 0 for none, 1 the side's, 2 D's, 3 both.
-pub fn failed_of(full: bool, n: usize, layers: usize, data_words: usize) -> u32
-    requires { (layers ≤ 32) × (data_words ≤ 2048) }
-    ensures { result ≡ failed_mode full n layers data_words }
-{
-    side_failed(full, n, layers) + words_failed(full, layers, data_words)
 }

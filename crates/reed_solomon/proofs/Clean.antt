@@ -6,7 +6,11 @@ use mathlib.Core.List.{List, []}
 use mathlib.Core.Option.{some}
 use Prim.Native.Nat.{ℕ, ◌-◌, ◌≤◌, ◌<◌}
 use native.Mathlib.Omega.{arith}
-use lib.ListN.{length, get_or}
+use lib.Dec.{T, eqb}
+use lib.ListN.{length, get_or, take}
+use Rattle.std.proofs.lemmas.List.{get_or-take, length-take-le}
+use Rattle.list_laws.specs.Range.{all-at, all_of}
+use Rattle.list_laws.specs.Tests.{same_test}
 use Rattle.list_laws.specs.Filled.{tabulate, length-tabulate, get_or-tabulate}
 use Rattle.algebra.specs.Field.{⊕-zero}
 use Rattle.finite_field.specs.Field.{WordSize}
@@ -47,3 +51,13 @@ module _ (s : WordSize) {check limit : ℕ} {received marks : List ℕ} (work : 
       restored-entry
       (clean-near s check limit marks [] syndromes y (λ j _. refl) are.words
       (subst (λ (m : ℕ). SyndromesOf s check m y syndromes) (sym lawful.same_length) are.sums) none few)
+
+-- the syndromes as a slice of their own
+pub zeros-front : (n : ℕ) (l : List ℕ) → n ≤ length l → zeros (length (take n l)) (take n l) ≡ zeros n l
+zeros-front n l fits =
+    ap (λ m. zeros m (take n l)) (length-take-le n l fits)
+    ∙ same_test _ _
+    (λ t. all_of n (λ j. eqb (get_or l j 0) 0) (λ j k. subst (λ x. T (eqb x 0)) (get_or-take n l j 0 k) (all-at n (λ j. eqb (get_or (take n l) j 0) 0) t j k)))
+    (λ t.
+    all_of n (λ j. eqb (get_or (take n l) j 0) 0)
+    (λ j k. subst (λ x. T (eqb x 0)) (sym (get_or-take n l j 0 k)) (all-at n (λ j. eqb (get_or l j 0) 0) t j k)))

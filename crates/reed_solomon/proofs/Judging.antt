@@ -1,7 +1,7 @@
--- The corrector's answer by its tests: the counts, the marks and words, the lengths and the word size.
+-- The corrector's answer by its tests: the counts, the marks and the words.
 -- Assumes nothing.
-use borrow.Author.Tests.{eq-eqb, lt-ltb}
-use mathlib.Core.Path.{◌≡◌, refl, sym}
+use borrow.Author.Tests.{lt-ltb}
+use mathlib.Core.Path.{◌≡◌}
 use mathlib.Core.Bool.{true, false}
 use mathlib.Core.List.{List}
 use mathlib.Core.Logic.{◌⊎◌, inl, inr}
@@ -9,14 +9,14 @@ use Prim.Native.Nat.{ℕ, ◌^◌, ◌<◌}
 use native.Mathlib.Nat.{le_refl}
 use native.Mathlib.Decide.{dec_lt}
 use native.Mathlib.Omega.{arith}
-use lib.Dec.{T, T_not, eqb, leb, ltb, eqb→eq, ltb→lt}
+use lib.Dec.{T, T_not, leb, ltb, ltb→lt}
 use lib.Pow.{pow_pos}
 use lib.ListN.{length, get_or, get_or-eq_default}
 use Rattle.list_laws.specs.Tests.{both-parts, either, false_of, holds}
 use Rattle.list_laws.specs.Range.{all-at}
-use Rattle.finite_field.specs.Field.{WordSize, w4, w6, w8, w10, w12, bits, size_of, Word}
+use Rattle.finite_field.specs.Field.{WordSize, bits, Word}
 use Rattle.block_code.specs.Nearest.{marked, nearest}
-use Rattle.reed_solomon.specs.Correct.{Answer, refused, same_lengths, lawful_size, lawful_counts, lawful_words, answer, judge_of, correct_of}
+use Rattle.reed_solomon.specs.Correct.{Answer, refused, lawful_counts, lawful_words, answer, judge_of}
 use Rattle.correction.specs.Steps.{Readable, Lawful}
 
 -- a number and words that are one answer's are those of its equal
@@ -61,41 +61,3 @@ module _ (s : WordSize) (check : ℕ) (received marks corrected : List ℕ) wher
   pub lawful : Counts s check (length received) → lawful_words s received marks ≡ true → length marks ≡ length received → Lawful s check check received marks
   lawful (l, k, m) e h =
       record { readable = readable (holds e); same_length = h; limit-le = le_refl check; check-lt = m; length-lt = l }
-
-size_is : (s : WordSize) → size_of (bits s) ≡ s
-size_is w4 = refl
-size_is w6 = refl
-size_is w8 = refl
-size_is w10 = refl
-size_is w12 = refl
-
--- a number that is none of the five is no word size
-pub not-a-size : (b : ℕ) → (b ≡ 4 → ⊥) → (b ≡ 6 → ⊥) → (b ≡ 8 → ⊥) → (b ≡ 10 → ⊥) → (b ≡ 12 → ⊥)
-    → (s : WordSize) → bits s ≡ b → ⊥
-not-a-size b n4 n6 n8 n10 n12 w4 e = n4 (sym e)
-not-a-size b n4 n6 n8 n10 n12 w6 e = n6 (sym e)
-not-a-size b n4 n6 n8 n10 n12 w8 e = n8 (sym e)
-not-a-size b n4 n6 n8 n10 n12 w10 e = n10 (sym e)
-not-a-size b n4 n6 n8 n10 n12 w12 e = n12 (sym e)
-
-module _ (b check : ℕ) (received marks corrected : List ℕ) where
-  abbrev Lengths : Type 0
-  Lengths = (length marks ≡ length received) × (length corrected ≡ length received)
-
-  lengths : T (same_lengths received marks corrected) → Lengths
-  lengths t =
-      let l = both-parts (eqb (length marks) (length received)) _ t in
-      (eqb→eq _ _ l.0, eqb→eq _ _ l.1)
-
-  same-lengths : Lengths → same_lengths received marks corrected ≡ true
-  same-lengths (m, c) = rw (eq-eqb _ _ m, eq-eqb _ _ c)
-
-  pub correct-31 : (Lengths → ⊥) → correct_of b check received marks corrected ≡ refused 31 corrected
-  correct-31 n = rw (false_of (same_lengths received marks corrected) (λ t. n (lengths t)))
-
-  pub correct-32 : Lengths → (bits (size_of b) ≡ b → ⊥) → correct_of b check received marks corrected ≡ refused 32 corrected
-  correct-32 l n = rw (same-lengths l, false_of (lawful_size b) (λ t. n (eqb→eq _ _ t)))
-
-  pub correct-judge : Lengths → (s : WordSize) → b ≡ bits s
-      → correct_of b check received marks corrected ≡ judge_of s check received marks corrected
-  correct-judge l s e = rw (same-lengths l, e, size_is s, eq-eqb (bits s) (bits s) refl)

@@ -12,34 +12,42 @@ use native.Mathlib.Omega.{arith}
 use lib.Dec.{T, T_not, eqb, leb, ltb}
 use lib.ListN.{length, get_or, set}
 use lib.Seq.{get_or-set_same, get_or-set_other}
-use Rattle.list_laws.specs.Range.{one, count, count_none, count-suc, count_most, all_of}
+use Rattle.list_laws.specs.Range.{one, count, count_none, count-suc, all_of}
 use Rattle.list_laws.specs.Tests.{decided, true_of, false_of}
 use Rattle.finite_field.specs.Field.{WordSize, bits}
-use Rattle.block_code.specs.Nearest.{marked}
+use Rattle.block_code.specs.Nearest.{marked, unread}
+use Rattle.std.specs.Prelude.{Option, Some, None}
+use Rattle.std.proofs.lemmas.Option.{none-some}
 use Rattle.repair.proofs.Solving.{not-both}
 use Rattle.reed_solomon.specs.Correct.{lawful_words}
 use Rattle.reed_solomon.specs.BlockRead.{BlockRead}
 
-module _ (s : WordSize) (received marks : List ℕ) {e : ℕ} {to : List ℕ} where
-  pub words-refused : lawful_words s received marks ≡ false → length received < e → BlockRead s received marks e to
-  words-refused f more = record {
+abbrev value : Option ℕ → ℕ
+value None = 0
+value (Some n) = n
+
+module _ (s : WordSize) (received marks : List ℕ) {e : Option ℕ} {to : List ℕ} where
+  pub words-refused : lawful_words s received marks ≡ false → e ≡ None → BlockRead s received marks e to
+  words-refused f none = record {
     marks-counted = λ t. absurd (not-both (sym t ∙ f));
     coefficients = λ t. absurd (not-both (sym t ∙ f));
-    unlawful = λ _. more;
+    unlawful = λ _. none;
   }
 
   -- the answer tells whether the words are lawful
-  pub refused-words : length marks ≡ length received → BlockRead s received marks e to → length received < e
-      → lawful_words s received marks ≡ false
-  refused-words same read more =
+  pub refused-words : BlockRead s received marks e to → e ≡ None → lawful_words s received marks ≡ false
+  refused-words read none =
       false_of (lawful_words s received marks)
-      (λ t. omega (arith, read.marks-counted (true_of _ t), count_most (length marks) (marked marks)))
+      (λ t. none-some _ (sym none ∙ read.marks-counted (true_of _ t)))
 
-  pub read-words : BlockRead s received marks e to → e ≤ length received → lawful_words s received marks ≡ true
-  read-words read few =
+  pub read-words : {n : ℕ} → BlockRead s received marks e to → e ≡ Some n → lawful_words s received marks ≡ true
+  read-words read some =
       ⊎_elim (true_of (lawful_words s received marks))
-      (λ n. absurd (let more = read.unlawful (false_of _ (λ t. T_not (lawful_words s received marks) n t)) in omega arith))
+      (λ n. absurd (none-some _ (sym (read.unlawful (false_of _ (λ t. T_not (lawful_words s received marks) n t))) ∙ some)))
       (decided (lawful_words s received marks))
+
+  pub read-count : {n : ℕ} → BlockRead s received marks e to → e ≡ Some n → n ≡ unread marks
+  read-count read some = ap value (sym some ∙ read.marks-counted (read-words read some))
 
 module _ (words : ℕ) (received marks : List ℕ) where
   -- the mark at i is 0 or 1, and the word, if it is not marked, below words
@@ -94,9 +102,10 @@ module _ (words : ℕ) (received marks : List ℕ) where
 
 -- all words are read
 pub reading-all : (s : WordSize) (words : ℕ) (received marks : List ℕ) {i e : ℕ} {to : List ℕ} → words ≡ 2 ^ bits s
-    → length marks ≡ length received → i ≡ length received → Reading words received marks i e to → BlockRead s received marks e to
+    → length marks ≡ length received → i ≡ length received → Reading words received marks i e to
+    → BlockRead s received marks (Some e) to
 reading-all s words received marks {i} {e} {to} size same all h = record {
-  marks-counted = λ _. h.counted ∙ ap (λ m. count m (marked marks)) (all ∙ sym same);
+  marks-counted = λ _. ap Some (h.counted ∙ ap (λ m. count m (marked marks)) (all ∙ sym same));
   coefficients =
       λ _ k l.
       let n = length received in

@@ -1,2 +1,3 @@
 pub mod Correct
 pub mod BlockRead
+pub mod Refusals

@@ -4,23 +4,24 @@
 use borrow.Author.Tests.{eq-eqb, ne_eqb}
 use mathlib.Core.Path.{◌≡◌, sym, ap, ◌∙◌, subst, fun_ext}
 use mathlib.Core.Bool.{Bool, true, false, cond, ◌||◌}
-use mathlib.Core.List.{List}
+use mathlib.Core.List.{List, ◌++◌}
 use Prim.Native.Nat.{ℕ, suc, ◌+◌, ◌^◌, ◌≤◌, ◌<◌}
 use native.Mathlib.Nat.{suc-ne-zero}
 use Prim.Native.Nat.{suc-le-suc}
 use native.Mathlib.Omega.{arith}
 use native.Mathlib.Decide.{dec_lt}
 use lib.Dec.{T, eqb}
-use lib.ListN.{length, get_or}
+use lib.ListN.{length, get_or, take, drop}
+use Rattle.std.proofs.lemmas.List.{get_or-take, length-take-le}
 use Rattle.algebra.specs.Field.{is_zero}
 use Rattle.algebra.specs.KeyEquation.{eval-short, dot}
 use Rattle.algebra.specs.Erasures as erasures
 use Rattle.algebra.specs.Exactness as exactness
 use Rattle.algebra.proofs.Candidates as candidates
 use Rattle.list_laws.specs.Range.{one, count_same}
-use Rattle.list_laws.specs.Filled.{filled, get_or-filled, get_or-unfilled}
 use Rattle.finite_field.specs.Field.{WordSize, bits}
 use Rattle.finite_field.specs.Instance.{word_field, word, entry, word-zero}
+use Rattle.evaluation.proofs.Parts.{front-at, rest-at}
 use Rattle.block_code.specs.Nearest.{marked, unread}
 use Rattle.block_code.specs.NearestLaws.{places-distinct, places-nonzero}
 use Rattle.correction.specs.Steps.{
@@ -38,14 +39,18 @@ use Rattle.correction.specs.Steps.{
 }
 
 -- a copy of the first words of a list that is 0 from there on, over zeros, has the list's entries
-pub copied : {n : ℕ} (l u : List ℕ) → ZeroFrom n l → ZeroFrom 0 u → (j : ℕ) → get_or (filled (λ i. get_or l i 0) n u) j 0 ≡ get_or l j 0
-copied {n} l u zl zu j = by (dec_lt j n)
+pub copied : (n : ℕ) (l u part : List ℕ) → part ≡ take n l → n ≤ length l → ZeroFrom n l → ZeroFrom 0 u
+    → (j : ℕ) → get_or (part ++ drop n u) j 0 ≡ get_or l j 0
+copied n l u part e fits zl zu j = by (dec_lt j n)
   where
-    by : Dec (j < n) → get_or (filled (λ i. get_or l i 0) n u) j 0 ≡ get_or l j 0
-    by (yes h) = get_or-filled (λ i. get_or l i 0) 0 n j u h
+    long : length part ≡ n
+    long = ap length e ∙ length-take-le n l fits
+
+    by : Dec (j < n) → get_or (part ++ drop n u) j 0 ≡ get_or l j 0
+    by (yes h) = front-at n u part long j h ∙ ap (λ x. get_or x j 0) e ∙ get_or-take n l j 0 h
     by (no h) =
         let k : n ≤ j = omega arith in
-        get_or-unfilled (λ i. get_or l i 0) 0 n j u k ∙ zu j (omega arith) ∙ sym (zl j k)
+        rest-at n u part long j k ∙ zu j (omega arith) ∙ sym (zl j k)
 
 -- a note of a test is 1 where it holds
 noted-test : (b : Bool) {a : ℕ} → a ≡ one b → eqb a 1 ≡ b

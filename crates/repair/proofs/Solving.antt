@@ -4,10 +4,11 @@
 use mathlib.Core.Path.{◌≡◌, sym, ap, ◌∙◌, subst}
 use mathlib.Core.Bool.{Bool, true, false, not, cond}
 use mathlib.Core.List.{List}
-use Prim.Native.Nat.{ℕ, ◌<◌}
+use Prim.Native.Nat.{ℕ, ◌≤◌, ◌<◌}
 use native.Mathlib.Omega.{arith}
 use lib.Dec.{T}
-use lib.ListN.{length, get_or, replicate, length-replicate}
+use lib.ListN.{length, get_or, take, replicate, length-replicate}
+use Rattle.std.proofs.lemmas.List.{get_or-take, length-take-le}
 use Rattle.algebra.specs.Field.{zero-⊕}
 use Rattle.list_laws.specs.Filled.{tabulate, get_or-tabulate}
 use Rattle.finite_field.specs.Xor.{◌⊕◌}
@@ -16,7 +17,7 @@ use Rattle.finite_field.specs.Instance.{word_field, word, entry, word-xor}
 use Rattle.block_code.specs.Block.{Words}
 use Rattle.block_code.specs.Nearest.{marked}
 use Rattle.repair.specs.Work.{Work}
-use Rattle.correction.specs.Steps.{Readable, Blank, read_word, corrected, written_at}
+use Rattle.correction.specs.Steps.{Readable, Blank, SyndromesOf, read_word, corrected, written_at}
 use Rattle.block_code.specs.WordLists.{words-tabulate}
 use Rattle.evaluation.proofs.Elements.{xor-word, zeros-from}
 
@@ -64,3 +65,9 @@ module _ (s : WordSize) where
     written_entry i l =
         ap (word s) (get_or-tabulate (written_at received marks corrections) 0 (length received) i l)
         ∙ (written-case (marked marks i) (get_or received i 0) (get_or corrections i 0) (reads i) (words i)).1
+
+-- the syndromes as a slice of their own
+pub syndromes-front : (s : WordSize) (check n : ℕ) (y : ℕ → (word_field s).C) (l : List ℕ) → check ≤ length l → SyndromesOf s check n y l
+    → SyndromesOf s (length (take check l)) n y (take check l)
+syndromes-front s check n y l fits h j k =
+    let below : j < check = rw (length-take-le check l fits) at k in ap (word s) (get_or-take check l j 0 below) ∙ h j below

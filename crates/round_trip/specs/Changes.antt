@@ -22,7 +22,7 @@ unfolding damaged changed_to
 damaged-none tag = tabulate-get_or 0 tag
 
 -- an entry is the same whatever stands for those beyond the list
-entry-any : (l : List ℕ) (k d e : ℕ) → k < length l → get_or l k d ≡ get_or l k e
+pub entry-any : (l : List ℕ) (k d e : ℕ) → k < length l → get_or l k d ≡ get_or l k e
 entry-any [] k d e h = absurd (not-suc-le-zero h)
 entry-any (x ∷ l) zero d e h = refl
 entry-any (x ∷ l) (suc k) d e h = entry-any l k d e (le_of_suc-le-suc h)

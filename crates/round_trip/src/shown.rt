@@ -6,40 +6,37 @@ ghost use Rattle.round_trip.specs.Changes.{changed_to, damaged};
 
 use decoder::Decoded;
 use sampling::upright as turning;
+use symbol::shapes::Position;
 
 // The position that takes a position back. Turning upright from there puts an upright tag in the position.
 fn back_of(position: usize) -> usize
     ensures { result ≡ back position }
 {
-    if position == 1 {
-        return 3;
+    match position {
+        1 => 3,
+        3 => 1,
+        _ => position,
     }
-    if position == 3 {
-        return 1;
-    }
-    position
 }
+
+// The greatest module: unread.
+const UNREAD: u8 = 2;
 
 // Module k after the changes.
 fn changed(changes: &[u8], k: usize, was: u8) -> u8
     ensures { result ≡ changed_to was (get_or changes.now k 3) }
 {
-    if changes.len() <= k {
-        return was;
+    match changes.get(k) {
+        Some(change) if *change <= UNREAD => *change,
+        _ => was,
     }
-    if 2 < changes[k] {
-        return was;
-    }
-    changes[k]
 }
 
 fn damage(changes: &[u8], tag: &mut [u8])
     ensures { tag.new ≡ damaged tag.old changes.now }
 {
-    let mut k = 0;
-    while k < tag.len() {
-        tag[k] = changed(changes, k, tag[k]);
-        k += 1;
+    for (k, module) in tag.iter_mut().enumerate() {
+        *module = changed(changes, k, *module);
     }
 }
 
@@ -58,7 +55,8 @@ pub fn read_shown(
     ensures read_after { read.new ≡ (decode_of
         (damaged (placed side position made.now) changes.now) side read.old).message }
 {
-    turning::turn_upright(side as usize, back_of(position), made, tag);
+    let back = Position::numbered(back_of(position));
+    turning::turn_upright(side as usize, back, made, tag);
     damage(changes, tag);
     decoder::decode(tag, side, read)
 }

@@ -1,10 +1,10 @@
 -- Words read through a table of places are those at the places.
 -- Assumes nothing.
 use mathlib.Core.Path.{◌≡◌, ap, ap₂, ◌∙◌}
-use mathlib.Core.Bool.{Bool, true, false}
+use mathlib.Core.Bool.{Bool}
 use mathlib.Core.List.{List}
 use Prim.Native.Nat.{ℕ, ◌+◌, ◌*◌, ◌≤◌, ◌<◌}
-use native.Mathlib.Nat.{zero-add, mul-le-mul, le_trans}
+use native.Mathlib.Nat.{zero-add}
 use native.Mathlib.Omega.{arith}
 use lib.ListN.{length, get_or}
 use Rattle.list_laws.specs.Filled.{tabulate}
@@ -14,15 +14,6 @@ use Rattle.symbol.specs.Places.{mode_run, mode_place, data_place}
 use Rattle.symbol.specs.GridWords.{value, unread, block-index}
 use Rattle.symbol.specs.Tables.{table_at}
 use Rattle.sampling.specs.Sampled.{table_module, mode_module_of, block_module_of, mode_words_of, mode_marks_of, block_words_of, block_marks_of, values_same, marks-same}
-
--- the tables have room
-below : (a L : ℕ) → a ≤ 112 → L ≤ 4 → (a + 16 * L) * L ≤ 704
-below a L h k = le_trans (mul-le-mul {n₁ = a + 16 * L} {m₁ = L} {n₂ = 176} {m₂ = 4} (omega arith) k) (omega arith)
-
-pub few_bits : (f : Bool) (L : ℕ) → L ≤ 4 → bits f L ≤ 704
-unfolding bits
-few_bits false L h = below 88 L (omega arith) h
-few_bits true L h = below 112 L (omega arith) h
 
 module _ (f : Bool) (n : ℕ) (u before : List ℕ) (enough : 4 * mode_run f ≤ length before) {table : List ℕ} (made : table ≡ writes before (λ k. k) (mode_place f n) (4 * mode_run f)) {m : ℕ} (all : m ≡ mode_run f) where
   at_place : (w b : ℕ) → w < mode_run f → b < 4 → table_module 4 0 table u w b ≡ mode_module_of f n u w b

@@ -7,20 +7,14 @@ fn ones_of(size: usize) -> u16
     requires { size ≤ 12 }
     ensures { result ≡ 2 ^ size - 1 }
 {
-    ((1usize << size) - 1) as u16
+    (1 << size) - 1
 }
 
 // A word's mark, given the word of all 1s.
 fn flat_mark(ones: u16, word: u16, mark: u8) -> u8
     ensures { result ≡ cond (eqb word 0 || eqb word ones) 1 mark }
 {
-    if word == 0 {
-        return 1;
-    }
-    if word == ones {
-        return 1;
-    }
-    mark
+    if word == 0 || word == ones { 1 } else { mark }
 }
 
 // Marks those of the first `count` words, the data words.
@@ -29,9 +23,7 @@ pub fn mark_flat(size: usize, count: usize, words: &[u16], marks: &mut [u8])
     ensures { marks.new ≡ flat_marked size count words.now marks.old }
 {
     let ones = ones_of(size);
-    let mut w = 0;
-    while w < count {
+    for w in 0..count {
         marks[w] = flat_mark(ones, words[w], marks[w]);
-        w += 1;
     }
 }

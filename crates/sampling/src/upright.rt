@@ -6,6 +6,7 @@ ghost use Rattle.symbol.specs.GridWords.{module_at};
 ghost use Rattle.sampling.specs.Lines.{Along};
 
 use symbol::places;
+use symbol::shapes::Position;
 
 // Column c stands at start + c * ahead - c * back.
 #[derive(Clone, Copy)]
@@ -16,13 +17,13 @@ pub struct Line {
 }
 
 // Where a row of the upright grid stands in a position.
-fn line_of(n: usize, position: usize, row: usize) -> Line
-    requires { (position < 8) × (n ≤ 151) × (row < n) }
-    ensures { Along n position row result }
+fn line_of(n: usize, position: Position, row: usize) -> Line
+    requires { (n ≤ 151) × (row < n) }
+    ensures { Along n position.number row result }
 {
     let first = places::turned_cell(position, n, row, 0);
     let start = first.row * n + first.col;
-    match position {
+    match position.number {
         0 | 6 => Line {
             start,
             ahead: 1,
@@ -46,30 +47,26 @@ fn line_of(n: usize, position: usize, row: usize) -> Line
     }
 }
 
-fn turn_row(n: usize, position: usize, row: usize, grid: &[u8], upright: &mut [u8])
-    requires { (position < 8) × (n ≤ 151) × (row < n) × (n * n ≡ length grid.now) × (n * n ≤ length upright.old) }
+fn turn_row(n: usize, position: Position, row: usize, grid: &[u8], upright: &mut [u8])
+    requires { (n ≤ 151) × (row < n) × (n * n ≡ length grid.now) × (n * n ≤ length upright.old) }
     ensures { upright.new ≡ writes upright.old (λ (c : ℕ). row * n + c)
-        (λ (c : ℕ). module_at n position grid.now (row * n + c)) n }
+        (λ (c : ℕ). module_at n position.number grid.now (row * n + c)) n }
 {
     let line = line_of(n, position, row);
     let first = row * n;
-    let mut c = 0;
-    while c < n {
+    for c in 0..n {
         let at = line.start + c * line.ahead - c * line.back;
         upright[first + c] = grid[at];
-        c += 1;
     }
 }
 
 // The first n * n modules are the upright grid's, row by row.
-pub fn turn_upright(n: usize, position: usize, grid: &[u8], upright: &mut [u8])
-    requires { (position < 8) × (n ≤ 151) × (n * n ≡ length grid.now) × (n * n ≤ length upright.old) }
+pub fn turn_upright(n: usize, position: Position, grid: &[u8], upright: &mut [u8])
+    requires { (n ≤ 151) × (n * n ≡ length grid.now) × (n * n ≤ length upright.old) }
     ensures { upright.new ≡ writes upright.old (λ (k : ℕ). k)
-        (module_at n position grid.now) (n * n) }
+        (module_at n position.number grid.now) (n * n) }
 {
-    let mut row = 0;
-    while row < n {
+    for row in 0..n {
         turn_row(n, position, row, grid, upright);
-        row += 1;
     }
 }

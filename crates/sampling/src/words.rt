@@ -22,22 +22,20 @@ fn mark_with(mark: u8, seen: u8) -> u8
     mark
 }
 
-// The word whose places start at `from`.
-fn read_word(size: usize, from: usize, places: &[u16], upright: &[u8]) -> Word
-    requires fact_1 { (size ≤ 12) × (from + size ≤ length places.now) }
-    requires fact_2 { PlacesFit places.now from size (length upright.now) }
-    ensures { (result.value ≡ value size (λ (b : ℕ). tabled places.now upright.now (from + b)))
-        × (result.mark ≡ unread size (λ (b : ℕ). tabled places.now upright.now (from + b))) }
+// The word at these places.
+fn read_word(places: &[u16], upright: &[u8]) -> Word
+    requires fact_1 { length places.now ≤ 12 }
+    requires fact_2 { PlacesFit places.now 0 (length places.now) (length upright.now) }
+    ensures { (result.value ≡ value (length places.now) (tabled places.now upright.now))
+        × (result.mark ≡ unread (length places.now) (tabled places.now upright.now)) }
 {
     let mut value = 0u16;
     let mut mark = 0u8;
-    let mut b = 0;
-    while b < size {
-        let at = places[from + b] as usize;
+    for place in places {
+        let at = *place as usize;
         let seen = upright[at];
         value = 2 * value + (seen % 2) as u16;
         mark = mark_with(mark, seen);
-        b += 1;
     }
     Word { value, mark }
 }
@@ -59,11 +57,10 @@ pub fn read_words(
     ensures marks_after { marks.new ≡ tabulate
         (λ (w : ℕ). unread size (table_module size skip places.now upright.now w)) (length words.old) }
 {
-    let mut w = 0;
-    while w < words.len() {
-        let word = read_word(size, skip + w * size, places, upright);
+    for w in 0..words.len() {
+        let from = skip + w * size;
+        let word = read_word(&places[from..from + size], upright);
         words[w] = word.value;
         marks[w] = word.mark;
-        w += 1;
     }
 }

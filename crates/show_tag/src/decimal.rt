@@ -1,35 +1,27 @@
 // A number below 2^32 in decimal digits.
 ghost use Rattle.std.specs.Prelude.{◌≡◌};
-ghost use Rattle.show_tag.specs.Reading.{read_decimal};
+ghost use Rattle.show_tag.specs.Reading.{extended, read_decimal};
 
-#[derive(Drop)]
-pub enum Decimal {
-    Number(u32),
-    Nothing,
+// The number with one digit more, if the byte is a digit.
+fn extend(value: u32, byte: u8) -> Option<u32>
+    ensures { result ≡ extended value byte }
+{
+    if !byte.is_ascii_digit() {
+        return None;
+    }
+    value.checked_mul(10)?.checked_add(u32::from(byte - b'0'))
 }
 
 // The number that a text says, if it is digits alone.
-pub fn read(text: &[u8]) -> Decimal
+pub fn read(text: &[u8]) -> Option<u32>
     ensures { result ≡ read_decimal text.now }
 {
-    if text.len() == 0 {
-        return Decimal::Nothing;
+    if text.is_empty() {
+        return None;
     }
-    let mut value: u64 = 0;
-    let mut i = 0;
-    while i < text.len() {
-        let byte = text[i];
-        if byte < b'0' {
-            return Decimal::Nothing;
-        }
-        if b'9' < byte {
-            return Decimal::Nothing;
-        }
-        value = 10 * value + (byte - b'0') as u64;
-        if 4294967295 < value {
-            return Decimal::Nothing;
-        }
-        i += 1;
+    let mut value = 0;
+    for byte in text {
+        value = extend(value, *byte)?;
     }
-    Decimal::Number(value as u32)
+    Some(value)
 }

@@ -1,24 +1,28 @@
--- The tables that the code keeps, from the definitions: the code sets as numbers and a search of a row, first sets, and latch paths.
+-- The tables that the code keeps are the definitions': entries and a search of a row for a byte, first sets, and latch paths.
 -- Assumes nothing.
-use mathlib.Core.Path.{◌≡◌, refl, sym, ap, ◌∙◌}
+use Rattle.std.specs.Prelude.{Option, Some, None, MatchOption, nat_lt, IsTrue, ◌↔◌}
+use Rattle.std.specs.List as list
+use Rattle.std.proofs.lemmas.List.{get_or_default}
+use Rattle.std.proofs.lemmas.List.Recursion.{is_position_or_len}
+use Rattle.std.proofs.Common.{one-add}
+use mathlib.Core.Path.{◌≡◌, refl, sym, ap, ◌∙◌, subst}
 use mathlib.Core.Bool.{Bool, true, false, cond, ◌&&◌}
-use mathlib.Core.List.{List, [], ◌∷◌, map}
-use Prim.Native.Nat.{ℕ, zero, suc, ◌+◌, ◌/◌, ◌<◌}
-use native.Mathlib.Nat.{le_of_suc-le-suc, not-suc-le-zero}
+use mathlib.Core.List.{List, [], ◌∷◌}
+use Prim.Native.Nat.{ℕ, suc, ◌≤◌, ◌<◌}
 use native.Mathlib.Omega.{arith}
 use lib.Dec.{T, eqb, ltb, eqb→eq, ltb→lt}
-use lib.ListN.{length, get_or, length-map, get_or-map}
-use borrow.Author.Tests.{ltb-false, eq-eqb, ne_eqb}
-use Rattle.list_laws.specs.Filled.{tabulate, get_or-tabulate}
+use lib.ListN.{length, get_or}
+use borrow.Author.Tests.{ltb-true, ltb-false, eq-eqb, ne_eqb}
 use Rattle.list_laws.specs.Range.{all, all-at}
 use Rattle.list_laws.specs.Tests.{both-parts}
+use Rattle.stream.specs.declared.codes.CodeSet.{CodeSet}
 use Rattle.stream.specs.declared.codes.Entry.{Entry}
 use Rattle.stream.specs.declared.codes.Entry.TheVariants.{Char, Pair, Latch, Shift, Binary, Flag, Missing}
+use Rattle.stream.specs.declared.codes.TheConstants.{HOMES, LATCHES}
 use Rattle.stream.specs.Bits.{bits, value}
-use Rattle.stream.specs.Codes.{chars, table, row, entry, width, position, is_char, code_of, home}
+use Rattle.stream.specs.Codes.{set_number, chars, table, row, entry, width, position, is_char, code_of, home}
 use Rattle.stream.specs.Latches.{paths, path, latch_code, path_bits, latch_bits}
-use Rattle.stream.specs.CodeNumbers.{special, entry_of}
-use Rattle.stream.specs.CodeLaws.{position_at, position-none}
+use Rattle.stream.specs.StreamLength.{latch-number}
 
 rows_right : T (all 5 (λ s. eqb (length (row s)) 32))
 unfolding all chars table row
@@ -27,133 +31,92 @@ rows_right = tt
 row-length : (s : ℕ) → s < 5 → length (row s) ≡ 32
 row-length s h = eqb→eq (length (row s)) 32 (all-at 5 (λ s. eqb (length (row s)) 32) rows_right s h)
 
-module _ {A B : Type 0} (f : A → B) (d : A) (e : B) where
-  get_or-map-in : (xs : List A) (k : ℕ) → k < length xs → get_or (map f xs) k e ≡ f (get_or xs k d)
-  get_or-map-in [] k h = absurd (not-suc-le-zero h)
-  get_or-map-in (x ∷ xs) zero h = refl
-  get_or-map-in (x ∷ xs) (suc k) h = get_or-map-in xs k (le_of_suc-le-suc h)
+pub entry-in : (s c : ℕ) → s < 5 → c < 32 → get_or (get_or table s []) c (Char 0) ≡ entry s c
+unfolding entry row
+entry-in s c h g = get_or_default (row s) c (Char 0) Missing (omega (arith, row-length s h))
 
-no_char : (b : ℕ) (t : Bool) (x y : Entry) → is_char b x ≡ false → is_char b y ≡ false → is_char b (cond t x y) ≡ false
-no_char b true x y p q = p
-no_char b false x y p q = q
+-- a search of a row from the front
+module _ (p : Entry → Bool) where
+  position-is : (xs : List Entry) → position p xs ≡ list.position_or_len p xs
+  unfolding position
+  position-is = is_position_or_len (position p) p refl (λ x xs. ap (cond (p x) 0) (sym (one-add (position p xs))))
 
-special-no-char : (b n : ℕ) → is_char b (special n) ≡ false
-unfolding special
-special-no-char b n =
-    no_char b (eqb (n / 16) 17) _ _ refl
-    (no_char b (eqb (n / 16) 18) _ _ refl
-    (no_char b (eqb n 256) _ _ refl
-    (no_char b (eqb n 257) _ _ refl
-    (no_char b (eqb n 258) _ _ refl
-    (no_char b (eqb n 259) _ _ refl
-    (no_char b (eqb n 304) _ _ refl
-    (no_char b (eqb n 305) _ _ refl refl)))))))
+  position-most : (xs : List Entry) → position p xs ≤ length xs
+  unfolding position
+  position-most [] = omega arith
+  position-most (x ∷ xs) = go (p x) (position p xs) (position-most xs)
+    where
+      go : (t : Bool) (n : ℕ) → n ≤ length xs → cond t 0 (suc n) ≤ suc (length xs)
+      go true n h = omega arith
+      go false n h = omega arith
 
--- of the numbers, only the byte itself stands for it
-char-number : (b n : ℕ) → b < 256 → is_char b (entry_of n) ≡ eqb n b
-unfolding entry_of
-char-number b n h = go (ltb n 256) refl
+-- b's place among the characters' tests
+pub char-test : (b : ℕ) (e : Entry) (t : Bool) → (IsTrue t ↔ (e ≡ Char b)) → t ≡ is_char b e
+char-test b e true h = sym (ap (is_char b) (h.0 refl) ∙ eq-eqb b b refl)
+char-test b e false h = go e h.1
   where
-    go : (t : Bool) → ltb n 256 ≡ t → is_char b (cond t (Char n) (special n)) ≡ eqb n b
-    go true e = refl
-    go false e = special-no-char b n ∙ sym (ne_eqb n b (λ p. omega (arith, ltb-false n 256 e)))
+    go : (e : Entry) → (e ≡ Char b → IsTrue false) → false ≡ is_char b e
+    go (Char x) f = sym (ne_eqb x b (λ p. let e : false ≡ true = f (ap Char p) in cc))
+    go (Pair x y) f = refl
+    go (Latch t) f = refl
+    go (Shift t) f = refl
+    go Binary f = refl
+    go Flag f = refl
+    go Missing f = refl
 
--- the number that stands for an entry
-abbrev pub number_of : Entry → ℕ
-number_of (Char b) = b
-number_of (Pair a b) = cond (eqb a 13) 256 (cond (eqb a 46) 257 (cond (eqb a 44) 258 259))
-number_of (Latch t) = 272 + t
-number_of (Shift t) = 288 + t
-number_of Binary = 304
-number_of Flag = 305
-number_of Missing = 306
+-- finds b's code, or none
+pub code-found : (s b : ℕ) → s < 5 → (r : Option ℕ) → r ≡ list.position (is_char b) (row s)
+    → MatchOption r (code_of s b ≡ 32) (λ c. (c ≡ code_of s b) × (c < 32))
+unfolding code_of
+code-found s b h r e =
+    subst (λ r. MatchOption r (n ≡ 32) (λ c. (c ≡ n) × (c < 32))) (sym (e ∙ shown)) (go (nat_lt n 32) refl)
+  where
+    n : ℕ
+    n = position (is_char b) (row s)
 
-unfoldable pub numbers : List (List ℕ)
-numbers = map (map number_of) table
+    shown : list.position (is_char b) (row s) ≡ cond (nat_lt n 32) (Some n) None
+    shown = rw (sym (position-is (is_char b) (row s)), row-length s h) refl
 
-numbers-right : map (map entry_of) numbers ≡ table
-unfolding numbers special entry_of chars table
-numbers-right = refl
+    go : (t : Bool) → nat_lt n 32 ≡ t → MatchOption (cond t (Some n) None) (n ≡ 32) (λ c. (c ≡ n) × (c < 32))
+    go true f = (refl, ltb-true n 32 f)
+    go false f = omega (arith, ltb-false n 32 f, position-most (is_char b) (row s), row-length s h)
 
-numbers-row : (s : ℕ) → map entry_of (get_or numbers s []) ≡ row s
-unfolding row
-numbers-row s = sym (get_or-map (map entry_of) numbers s []) ∙ ap (λ t. get_or t s []) numbers-right
+-- the first set of b and its code there, or none
+abbrev homed : Option (CodeSet × ℕ) → ℕ → Bool
+homed (Some h) b = eqb (set_number h.0) (home b) && eqb h.1 (code_of (home b) b)
+homed None b = eqb (home b) 5
 
-numbers-length : (s : ℕ) → s < 5 → length (get_or numbers s []) ≡ 32
-numbers-length s h = sym (length-map (get_or numbers s []) entry_of) ∙ ap length (numbers-row s) ∙ row-length s h
+homes-right : T (all 256 (λ b. homed (get_or HOMES b None) b))
+unfolding all chars table row position code_of home
+homes-right = tt
 
-pub entry-number : (s c : ℕ) → s < 5 → c < 32 → entry_of (get_or (get_or numbers s []) c 0) ≡ entry s c
-unfolding entry
-entry-number s c h g =
-    sym (get_or-map-in entry_of 0 Missing (get_or numbers s []) c (omega (arith, numbers-length s h))) ∙ ap (λ r. get_or r c Missing) (numbers-row s)
+pub home_at : (b : ℕ) → b < 256
+    → MatchOption (get_or HOMES b None) (home b ≡ 5) (λ h. (set_number h.0 ≡ home b) × (h.1 ≡ code_of (home b) b))
+home_at b h = go (get_or HOMES b None) (all-at 256 (λ b. homed (get_or HOMES b None) b) homes-right b h)
+  where
+    go : (o : Option (CodeSet × ℕ)) → T (homed o b) → MatchOption o (home b ≡ 5) (λ h. (set_number h.0 ≡ home b) × (h.1 ≡ code_of (home b) b))
+    go (Some h) t =
+        let p = both-parts (eqb (set_number h.0) (home b)) (eqb h.1 (code_of (home b) b)) t in
+        (eqb→eq (set_number h.0) (home b) p.0, eqb→eq h.1 (code_of (home b) b) p.1)
+    go None t = eqb→eq (home b) 5 t
 
-char-at : (s b c : ℕ) → s < 5 → b < 256 → c < 32 → is_char b (entry s c) ≡ eqb (get_or (get_or numbers s []) c 0) b
-char-at s b c h i g = sym (ap (is_char b) (entry-number s c h g)) ∙ char-number b (get_or (get_or numbers s []) c 0) i
+-- a path's number and how many bits it is
+abbrev path_right : ℕ → ℕ → ℕ × ℕ → Bool
+path_right s t p = eqb p.1 (length (latch_bits s t)) && eqb p.0 (value 0 (latch_bits s t)) && ltb p.1 15
 
--- a search of a row from the front finds b at c
-pub code-found : (s b c : ℕ) → s < 5 → b < 256 → c < 32 → get_or (get_or numbers s []) c 0 ≡ b
-    → ((k : ℕ) → k < c → get_or (get_or numbers s []) k 0 ≡ b → ⊥) → c ≡ code_of s b
-unfolding code_of entry
-code-found s b c h i g e f =
-    sym
-    (position_at (is_char b) Missing (row s) c (omega (arith, row-length s h))
-    (char-at s b c h i g ∙ eq-eqb (get_or (get_or numbers s []) c 0) b e)
-    (λ j l. char-at s b j h i (omega arith) ∙ ne_eqb (get_or (get_or numbers s []) j 0) b (f j l)))
+latches-right : T (all 5 (λ s. all 5 (λ t. path_right s t (get_or (get_or LATCHES s []) t (0, 0)))))
+unfolding all chars table row width position paths path latch_code path_bits latch_bits bits value
+latches-right = tt
 
--- and finds none
-pub code-none : (s b : ℕ) → s < 5 → b < 256 → ((k : ℕ) → k < 32 → get_or (get_or numbers s []) k 0 ≡ b → ⊥) → 32 ≡ code_of s b
-unfolding code_of entry
-code-none s b h i f =
-    sym
-    (position-none (is_char b) Missing (row s)
-    (λ j l.
-    let g : j < 32 = omega (arith, row-length s h) in
-    char-at s b j h i g ∙ ne_eqb (get_or (get_or numbers s []) j 0) b (f j g))
-    ∙ row-length s h)
-
--- the first set of each byte
-unfoldable pub homes : List ℕ
-homes = tabulate home 256
-
-homes-small : T (all 256 (λ b. ltb (home b) 6))
-unfolding all chars table position home
-homes-small = tt
-
-pub home-small : (b : ℕ) → b < 256 → home b < 6
-home-small b h = ltb→lt (home b) 6 (all-at 256 (λ b. ltb (home b) 6) homes-small b h)
-
-pub home_at : (b : ℕ) → b < 256 → get_or homes b 0 ≡ home b
-unfolding homes
-home_at b h = get_or-tabulate home 0 256 b h
-
--- what is said of the latches from each set to each set
-unfoldable pub pairs : (ℕ → ℕ → ℕ) → List (List ℕ)
-pairs f = tabulate (λ s. tabulate (f s) 5) 5
-
-pub pair-at : (f : ℕ → ℕ → ℕ) (s t : ℕ) → s < 5 → t < 5 → get_or (get_or (pairs f) s []) t 0 ≡ f s t
-unfolding pairs
-pair-at f s t h g = ap (λ r. get_or r t 0) (get_or-tabulate (λ s. tabulate (f s) 5) [] 5 s h) ∙ get_or-tabulate (f s) 0 5 t g
-
--- how many bits they are, and the number that these say
-abbrev pub latch_length : ℕ → ℕ → ℕ
-latch_length s t = length (latch_bits s t)
-
-abbrev pub latch_value : ℕ → ℕ → ℕ
-latch_value s t = value 0 (latch_bits s t)
-
-short : ℕ → ℕ → Bool
-short s t = ltb (latch_length s t) 15
-
-small : ℕ → ℕ → Bool
-small s t = ltb (latch_value s t) 65536
-
-latches-small : T (all 5 (λ s. all 5 (λ t. short s t && small s t)))
-unfolding short small all chars table row width position paths path latch_code path_bits latch_bits bits value
-latches-small = tt
-
-pub latch-small : (s t : ℕ) → s < 5 → t < 5 → (latch_length s t < 15) × (latch_value s t < 65536)
-unfolding short small
-latch-small s t h g =
-    let row = all-at 5 (λ s. all 5 (λ t. short s t && small s t)) latches-small s h in
-    let parts = both-parts (short s t) (small s t) (all-at 5 (λ t. short s t && small s t) row t g) in
-    (ltb→lt (latch_length s t) 15 parts.0, ltb→lt (latch_value s t) 65536 parts.1)
+pub latch_at : (s t : ℕ) → s < 5 → t < 5 → (let p = get_or (get_or LATCHES s []) t (0, 0) in (latch_bits s t ≡ bits p.1 p.0) × (p.1 < 15))
+latch_at s t h g =
+    let p = get_or (get_or LATCHES s []) t (0, 0) in
+    let from = all-at 5 (λ s. all 5 (λ t. path_right s t (get_or (get_or LATCHES s []) t (0, 0)))) latches-right s h in
+    let right = all-at 5 (λ t. path_right s t (get_or (get_or LATCHES s []) t (0, 0))) from t g in
+    let size = eqb p.1 (length (latch_bits s t)) in
+    let said = eqb p.0 (value 0 (latch_bits s t)) in
+    let x = both-parts (size && said) (ltb p.1 15) right in
+    let y = both-parts size said x.0 in (
+      latch-number s t p.1 p.0 (sym (eqb→eq p.1 (length (latch_bits s t)) y.0)) (sym (eqb→eq p.0 (value 0 (latch_bits s t)) y.1)),
+      ltb→lt p.1 15 x.1,
+    )

@@ -9,10 +9,12 @@ use mathlib.Core.List.{List, [], ◌∷◌}
 use Prim.Native.Nat.{ℕ, zero, suc, ◌-◌, ◌^◌, ◌≤◌, ◌<◌, suc-le-suc}
 use Rattle.list_laws.specs.Range.{all, all-at}
 use Rattle.list_laws.specs.Tests.{both-parts, either}
+use borrow.Author.Tests.{lt-ltb, ltb-true}
+use Rattle.stream.specs.declared.codes.CodeSet.{CodeSet}
 use Rattle.stream.specs.declared.codes.Entry.{Entry}
 use Rattle.stream.specs.declared.codes.Entry.TheVariants.{Char, Pair, Latch, Shift, Binary, Flag, Missing}
 use Rattle.stream.specs.Bits.{bits}
-use Rattle.stream.specs.Codes.{chars, table, row, entry, width, position, is_char, code_of, has, home, coded}
+use Rattle.stream.specs.Codes.{set_number, chars, table, row, entry, width, position, is_char, code_of, has, home, coded}
 use Rattle.stream.specs.Latches.{paths, path, is_latch, latch_code, path_bits, latch_bits}
 use Rattle.stream.specs.Stream.{target, run_set}
 
@@ -51,7 +53,7 @@ codes-right = tt
 -- the path ts leads from set s to set t, a latch at a time
 abbrev pub Leads : ℕ → List ℕ → ℕ → Type 0
 Leads s [] t = s ≡ t
-Leads s (u ∷ us) t = (entry s (latch_code s u) ≡ Latch u) × (latch_code s u < 2 ^ width s) × Leads u us t
+Leads s (u ∷ us) t = ((v : CodeSet) × (set_number v ≡ u) × (entry s (latch_code s u) ≡ Latch v)) × (latch_code s u < 2 ^ width s) × Leads u us t
 
 is-char : (b : ℕ) (e : Entry) → T (is_char b e) → e ≡ Char b
 is-char b (Char x) h = ap Char (eqb→eq x b h)
@@ -62,10 +64,33 @@ is-char b Binary h = absurd h
 is-char b Flag h = absurd h
 is-char b Missing h = absurd h
 
-is-latch : (t : ℕ) (e : Entry) → T (is_latch t e) → e ≡ Latch t
+-- latches and shifts lead to sets
+abbrev turn_right : Entry → Bool
+turn_right (Char b) = true
+turn_right (Pair b c) = true
+turn_right (Latch t) = ltb (set_number t) 5
+turn_right (Shift t) = ltb (set_number t) 5
+turn_right Binary = true
+turn_right Flag = true
+turn_right Missing = true
+
+turns-right : T (all 5 (λ s. all 32 (λ c. turn_right (entry s c))))
+unfolding all chars table row entry
+turns-right = tt
+
+turn-right : (s c : ℕ) → s < 5 → c < 32 → T (turn_right (entry s c))
+turn-right s c h g = all-at 32 (λ c. turn_right (entry s c)) (all-at 5 (λ s. all 32 (λ c. turn_right (entry s c))) turns-right s h) c g
+
+pub latch-set : (s c : ℕ) (t : CodeSet) → s < 5 → c < 32 → entry s c ≡ Latch t → set_number t < 5
+latch-set s c t h g e = ltb→lt (set_number t) 5 (subst (λ x. T (turn_right x)) e (turn-right s c h g))
+
+pub shift-set : (s c : ℕ) (t : CodeSet) → s < 5 → c < 32 → entry s c ≡ Shift t → set_number t < 5
+shift-set s c t h g e = ltb→lt (set_number t) 5 (subst (λ x. T (turn_right x)) e (turn-right s c h g))
+
+is-latch : (t : ℕ) (e : Entry) → T (is_latch t e) → (v : CodeSet) × (set_number v ≡ t) × (e ≡ Latch v)
 is-latch t (Char x) h = absurd h
 is-latch t (Pair x y) h = absurd h
-is-latch t (Latch u) h = ap Latch (eqb→eq u t h)
+is-latch t (Latch u) h = (u, eqb→eq (set_number u) t h, refl)
 is-latch t (Shift u) h = absurd h
 is-latch t Binary h = absurd h
 is-latch t Flag h = absurd h
@@ -147,29 +172,6 @@ char-facts s b h g k =
       uneven = ltb→lt c (2 ^ width t - 1) p.4;
     }
 
--- latches and shifts lead to sets
-abbrev turn_right : Entry → Bool
-turn_right (Char b) = true
-turn_right (Pair b c) = true
-turn_right (Latch t) = ltb t 5
-turn_right (Shift t) = ltb t 5
-turn_right Binary = true
-turn_right Flag = true
-turn_right Missing = true
-
-turns-right : T (all 5 (λ s. all 32 (λ c. turn_right (entry s c))))
-unfolding all chars table row entry
-turns-right = tt
-
-turn-right : (s c : ℕ) → s < 5 → c < 32 → T (turn_right (entry s c))
-turn-right s c h g = all-at 32 (λ c. turn_right (entry s c)) (all-at 5 (λ s. all 32 (λ c. turn_right (entry s c))) turns-right s h) c g
-
-pub latch-set : (s c t : ℕ) → s < 5 → c < 32 → entry s c ≡ Latch t → t < 5
-latch-set s c t h g e = ltb→lt t 5 (subst (λ x. T (turn_right x)) e (turn-right s c h g))
-
-pub shift-set : (s c t : ℕ) → s < 5 → c < 32 → entry s c ≡ Shift t → t < 5
-shift-set s c t h g e = ltb→lt t 5 (subst (λ x. T (turn_right x)) e (turn-right s c h g))
-
 pub width-bounds : (s : ℕ) → (4 ≤ width s) × (width s ≤ 5)
 unfolding width
 width-bounds s = go (eqb s 4)
@@ -195,3 +197,35 @@ module _ {A : Type 0} (p : A → Bool) (d : A) where
   position-none (x ∷ xs) f =
       ap (λ t. cond t 0 (suc (position p xs))) (f zero (zero-lt-suc (length xs)))
       ∙ ap suc (position-none xs (λ j g. f (suc j) (suc-le-suc g)))
+
+  pub position-passes : (xs : List A) → position p xs < length xs → p (get_or xs (position p xs) d) ≡ true
+  unfolding position
+  position-passes [] h = absurd (not-suc-le-zero h)
+  position-passes (x ∷ xs) h = go (p x) refl h (position-passes xs)
+    where
+      go : (t : Bool) → p x ≡ t → cond t 0 (suc (position p xs)) < suc (length xs)
+          → (position p xs < length xs → p (get_or xs (position p xs) d) ≡ true)
+          → p (get_or (x ∷ xs) (cond t 0 (suc (position p xs))) d) ≡ true
+      go true e g f = e
+      go false e g f = f (omega arith)
+
+  pub position-first : (xs : List A) (i : ℕ) → i < length xs → p (get_or xs i d) ≡ true → position p xs ≤ i
+  unfolding position
+  position-first [] i h e = absurd (not-suc-le-zero h)
+  position-first (x ∷ xs) zero h e = omega (arith, ap (λ t. cond t 0 (suc (position p xs))) e)
+  position-first (x ∷ xs) (suc i) h e = go (p x) (position-first xs i (le_of_suc-le-suc h) e)
+    where
+      go : (t : Bool) → position p xs ≤ i → cond t 0 (suc (position p xs)) ≤ suc i
+      go true f = omega arith
+      go false f = omega arith
+
+-- a byte with a code in a set is coded, and its first set has it
+pub coded-in : (s b : ℕ) → s < 5 → code_of s b < 32 → coded b ≡ true
+unfolding coded home code_of row table
+coded-in s b h c =
+    lt-ltb (home b) 5
+    (omega (arith, position-first (λ r. ltb (position (is_char b) r) 32) [] table s h (lt-ltb (code_of s b) 32 c)))
+
+pub home-code : (b : ℕ) → home b < 5 → code_of (home b) b < 32
+unfolding home code_of row table
+home-code b h = ltb-true (code_of (home b) b) 32 (position-passes (λ r. ltb (position (is_char b) r) 32) [] table h)

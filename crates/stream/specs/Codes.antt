@@ -1,32 +1,49 @@
 -- The code sets (document 01, "From bytes to words", the table of sets and codes): five rows of 32 entries, set by code.
--- Sets are numbered 0 Upper, 1 Lower, 2 Mixed, 3 Punct, 4 Digit.
 -- Assumes nothing.
-use Rattle.std.specs.Prelude.{Bool, false, cond, List, [], ◌∷◌, ◌++◌, ℕ, suc, ◌+◌, eqb, ltb, get_or, replicate}
+use Rattle.std.specs.Prelude.{◌<◌, Bool, false, cond, List, [], ◌∷◌, ◌++◌, ℕ, suc, ◌+◌, eqb, ltb, get_or, replicate}
+use Rattle.std.proofs.Common.{arith}
 use Rattle.list_laws.specs.Filled.{tabulate}
+use Rattle.stream.specs.declared.codes.CodeSet.{CodeSet}
+use Rattle.stream.specs.declared.codes.CodeSet.TheVariants.{Upper, Lower, Mixed, Punct, Digit}
 use Rattle.stream.specs.declared.codes.Entry.{Entry}
 use Rattle.stream.specs.declared.codes.Entry.TheVariants.{Char, Pair, Latch, Shift, Binary, Flag, Missing}
 
+-- the number of a set: its row in the table
+abbrev pub set_number : CodeSet → ℕ
+set_number Upper = 0
+set_number Lower = 1
+set_number Mixed = 2
+set_number Punct = 3
+set_number Digit = 4
+
+pub set-number-below : (s : CodeSet) → set_number s < 5
+set-number-below Upper = omega arith
+set-number-below Lower = omega arith
+set-number-below Mixed = omega arith
+set-number-below Punct = omega arith
+set-number-below Digit = omega arith
+
 -- the table's names for the codes that are no characters: S shifts for one character, L latches
 abbrev pub U/S : Entry
-U/S = Shift 0
+U/S = Shift Upper
 
 abbrev pub P/S : Entry
-P/S = Shift 3
+P/S = Shift Punct
 
 abbrev pub U/L : Entry
-U/L = Latch 0
+U/L = Latch Upper
 
 abbrev pub L/L : Entry
-L/L = Latch 1
+L/L = Latch Lower
 
 abbrev pub M/L : Entry
-M/L = Latch 2
+M/L = Latch Mixed
 
 abbrev pub P/L : Entry
-P/L = Latch 3
+P/L = Latch Punct
 
 abbrev pub D/L : Entry
-D/L = Latch 4
+D/L = Latch Digit
 
 abbrev pub B/S : Entry
 B/S = Binary

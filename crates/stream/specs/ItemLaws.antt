@@ -1,18 +1,20 @@
 -- Items by the reader's branches: what stands at the front of the bits l, as the code finds it out, field by field.
 -- Assumes nothing.
-use Rattle.std.specs.Prelude.{◌≡◌, ◌≢◌, List, ℕ, ◌+◌, ◌*◌, ◌^◌, ◌≤◌, ◌<◌, eqb, length, take, drop}
+use Rattle.std.specs.Prelude.{◌≡◌, ◌≢◌, Result, Err, List, ℕ, ◌+◌, ◌*◌, ◌^◌, ◌≤◌, ◌<◌, eqb, length, take, drop}
 use Rattle.std.proofs.Math.Path.{ap}
 use Rattle.std.proofs.Common.{◌∙◌, arith, length-take, pow_mono, le-leb, ne_eqb}
 use Rattle.std.proofs.Math.Bool.{cond}
 use Rattle.std.proofs.lemmas.Bool.{lt-leb}
+use Rattle.stream.specs.declared.codes.CodeSet.{CodeSet}
 use Rattle.stream.specs.declared.codes.Entry.TheVariants.{Shift}
 use Rattle.stream.specs.declared.items.Item.TheVariants.{Raw}
 use Rattle.stream.specs.declared.items.Found.{Found}
-use Rattle.stream.specs.declared.items.Found.TheVariants.{Whole, Fault}
+use Rattle.stream.specs.declared.items.Fault.{Fault}
+use Rattle.stream.specs.declared.items.Fault.TheVariants.{CutShort}
 use Rattle.stream.specs.Below.{Bits, below-take, below-drop}
 use Rattle.stream.specs.Bits.{value-below}
-use Rattle.stream.specs.Codes.{entry, width}
-use Rattle.stream.specs.Items.{field, complete, shifted, bytes_at, count_at, item_by, item_at}
+use Rattle.stream.specs.Codes.{set_number, entry, width}
+use Rattle.stream.specs.Items.{found_item, field, complete, shifted, bytes_at, count_at, item_by, item_at}
 
 pub field_below : (l : List ℕ) (o w : ℕ) → Bits l → field l o w < 2 ^ w
 unfolding field
@@ -21,16 +23,16 @@ field_below l o w x =
     let short : length f ≤ w = rw length-take (omega arith) in
     omega (arith, value-below f (below-take 2 w (drop o l) (below-drop 2 o l x)), pow_mono {i = length f} {j = w} short)
 
-pub whole : (left n : ℕ) (f : Found) → n ≤ left → complete left n f ≡ f
+pub whole : (left n : ℕ) (f : Result Found Fault) → n ≤ left → complete left n f ≡ f
 unfolding complete
-whole left n f h = ap (λ t. cond t f (Fault 20)) (le-leb n left h)
+whole left n f h = ap (λ t. cond t f (Err CutShort)) (le-leb n left h)
 
-pub cut_short : (left n : ℕ) (f : Found) → left < n → complete left n f ≡ Fault 20
+pub cut_short : (left n : ℕ) (f : Result Found Fault) → left < n → complete left n f ≡ Err CutShort
 unfolding complete
-cut_short left n f h = ap (λ t. cond t f (Fault 20)) (lt-leb n left h)
+cut_short left n f h = ap (λ t. cond t f (Err CutShort)) (lt-leb n left h)
 
 module _ (l : List ℕ) where
-  pub item-cut : (s : ℕ) → length l < width s → item_at s l ≡ Fault 20
+  pub item-cut : (s : ℕ) → length l < width s → item_at s l ≡ Err CutShort
   unfolding item_at
   item-cut s h = cut_short (length l) (width s) _ h
 
@@ -38,28 +40,29 @@ module _ (l : List ℕ) where
   unfolding item_at
   item_by_lem s c h e = whole (length l) (width s) _ h ∙ ap (λ c. item_by l (width s) (entry s c)) e
 
-  pub shift-cut : (w t : ℕ) → length l < w + width t → item_by l w (Shift t) ≡ Fault 20
+  pub shift-cut : (w : ℕ) (t : CodeSet) → length l < w + width (set_number t) → item_by l w (Shift t) ≡ Err CutShort
   unfolding item_by
-  shift-cut w t h = cut_short (length l) (w + width t) _ h
+  shift-cut w t h = cut_short (length l) (w + width (set_number t)) _ h
 
-  pub shift_by : (w t c : ℕ) → w + width t ≤ length l → field l w (width t) ≡ c → item_by l w (Shift t) ≡ shifted (entry t c) (w + width t)
+  pub shift_by : (w : ℕ) (t : CodeSet) (c : ℕ) → (let n = set_number t in w + width n ≤ length l → field l w (width n) ≡ c
+      → item_by l w (Shift t) ≡ shifted (entry n c) (w + width n))
   unfolding item_by
-  shift_by w t c h e = whole (length l) (w + width t) _ h ∙ ap (λ c. shifted (entry t c) (w + width t)) e
+  shift_by w t c h e = let n = set_number t in whole (length l) (w + width n) _ h ∙ ap (λ c. shifted (entry n c) (w + width n)) e
 
-  pub bytes_cut : (o n : ℕ) → length l < o + 8 * n → bytes_at l o n ≡ Fault 20
+  pub bytes_cut : (o n : ℕ) → length l < o + 8 * n → bytes_at l o n ≡ Err CutShort
   unfolding bytes_at
   bytes_cut o n h = cut_short (length l) (o + 8 * n) _ h
 
-  pub bytes-by : (o n : ℕ) → o + 8 * n ≤ length l → bytes_at l o n ≡ Whole (Raw n) o
+  pub bytes-by : (o n : ℕ) → o + 8 * n ≤ length l → bytes_at l o n ≡ found_item (Raw n) o
   unfolding bytes_at
   bytes-by o n h = whole (length l) (o + 8 * n) _ h
 
   module _ (o : ℕ) where
-    pub count_cut : length l < o + 5 → count_at l o ≡ Fault 20
+    pub count_cut : length l < o + 5 → count_at l o ≡ Err CutShort
     unfolding count_at
     count_cut h = cut_short (length l) (o + 5) _ h
 
-    long : Found
+    long : Result Found Fault
     long = complete (length l) (o + 16) (bytes_at l (o + 16) (field l (o + 5) 11 + 31))
 
     -- by the test whether the short count is 0
@@ -70,7 +73,7 @@ module _ (l : List ℕ) where
     pub short-by : (n : ℕ) → o + 5 ≤ length l → field l o 5 ≡ n → n ≢ 0 → count_at l o ≡ bytes_at l (o + 5) n
     short-by n h e z = count-is n h e ∙ ap (λ t. cond t long (bytes_at l (o + 5) n)) (ne_eqb n 0 z)
 
-    pub long-cut : o + 5 ≤ length l → field l o 5 ≡ 0 → length l < o + 16 → count_at l o ≡ Fault 20
+    pub long-cut : o + 5 ≤ length l → field l o 5 ≡ 0 → length l < o + 16 → count_at l o ≡ Err CutShort
     unfolding long
     long-cut h e g = count-is 0 h e ∙ cut_short (length l) (o + 16) _ g
 

@@ -1,43 +1,53 @@
 -- The reader's items (document 01, "How a grid is read", step 4, and numbers 18 to 20).
 -- Assumes nothing.
-use Rattle.std.specs.Prelude.{Bool, cond, not, ◌&&◌, List, [], ◌∷◌, ◌++◌, ℕ, zero, suc, ◌+◌, ◌*◌, ◌-◌, eqb, ltb, leb, length, take, drop, get_or}
+use Rattle.std.specs.Prelude.{Bool, cond, Result, Ok, Err, not, ◌&&◌, List, [], ◌∷◌, ◌++◌, ℕ, zero, suc, ◌+◌, ◌*◌, ◌-◌, eqb, ltb, leb, length, take, drop, get_or}
 use Rattle.list_laws.specs.Range.{all}
 use Rattle.stream.specs.declared.codes.Entry.{Entry}
 use Rattle.stream.specs.declared.codes.Entry.TheVariants.{Char, Pair, Latch, Shift, Binary, Flag, Missing}
 use Rattle.stream.specs.declared.items.Item.{Item}
 use Rattle.stream.specs.declared.items.Item.TheVariants.{Single, Double, Turn, Raw}
 use Rattle.stream.specs.declared.items.Found.{Found}
-use Rattle.stream.specs.declared.items.Found.TheVariants.{Whole, Fault}
-use Rattle.stream.specs.declared.items.Verdict.{Verdict}
-use Rattle.stream.specs.declared.items.Verdict.TheVariants.{Message, Refused}
+use Rattle.stream.specs.declared.items.Fault.{Fault}
+use Rattle.stream.specs.declared.items.Fault.TheVariants.{FlatWord, WrongItem, CutShort}
+use Rattle.stream.specs.declared.items.Refusal.{Refusal}
 use Rattle.stream.specs.Bits.{value, all_ones}
-use Rattle.stream.specs.Codes.{entry, width}
+use Rattle.stream.specs.Codes.{set_number, entry, width}
 use Rattle.stream.specs.Stuffing.{flat, unstuff}
+
+-- the number of a fault
+abbrev pub number_of : Fault → ℕ
+number_of FlatWord = 18
+number_of WrongItem = 19
+number_of CutShort = 20
+
+-- an item is found, whose codes take u bits
+abbrev pub found_item : Item → ℕ → Result Found Fault
+found_item i u = Ok (record { item = i; used = u })
 
 -- the number in the w bits from bit o on
 unfoldable pub field : List ℕ → ℕ → ℕ → ℕ
 field l o w = value 0 (take w (drop o l))
 
--- "it must be complete": 20 if it takes n bits and fewer are left
-unfoldable pub complete : ℕ → ℕ → Found → Found
-complete left n f = cond (leb n left) f (Fault 20)
+-- "it must be complete": cut short, number 20, if it takes n bits and fewer are left
+unfoldable pub complete : ℕ → ℕ → Result Found Fault → Result Found Fault
+complete left n f = cond (leb n left) f (Err CutShort)
 
--- after a shift, u bits in all: a character or a pair, else 19
-abbrev pub shifted : Entry → ℕ → Found
-shifted (Char b) u = Whole (Single b) u
-shifted (Pair b c) u = Whole (Double b c) u
-shifted (Latch t) u = Fault 19
-shifted (Shift t) u = Fault 19
-shifted Binary u = Fault 19
-shifted Flag u = Fault 19
-shifted Missing u = Fault 19
+-- after a shift, u bits in all: a character or a pair, else a wrong item, number 19
+abbrev pub shifted : Entry → ℕ → Result Found Fault
+shifted (Char b) u = found_item (Single b) u
+shifted (Pair b c) u = found_item (Double b c) u
+shifted (Latch t) u = Err WrongItem
+shifted (Shift t) u = Err WrongItem
+shifted Binary u = Err WrongItem
+shifted Flag u = Err WrongItem
+shifted Missing u = Err WrongItem
 
 -- B/S: n bytes from bit o on
-unfoldable pub bytes_at : List ℕ → ℕ → ℕ → Found
-bytes_at l o n = complete (length l) (o + 8 * n) (Whole (Raw n) o)
+unfoldable pub bytes_at : List ℕ → ℕ → ℕ → Result Found Fault
+bytes_at l o n = complete (length l) (o + 8 * n) (found_item (Raw n) o)
 
 -- B/S, with its count from bit o on: "5 bits of count 1 to 31, or 0 and then 11 bits of count minus 31"
-unfoldable pub count_at : List ℕ → ℕ → Found
+unfoldable pub count_at : List ℕ → ℕ → Result Found Fault
 count_at l o =
     complete (length l) (o + 5)
     (cond (eqb (field l o 5) 0)
@@ -45,17 +55,19 @@ count_at l o =
     (bytes_at l (o + 5) (field l o 5)))
 
 -- the item that starts with a code of w bits, by the code's entry; FLG is 19, whatever follows it
-unfoldable pub item_by : List ℕ → ℕ → Entry → Found
-item_by l w (Char b) = Whole (Single b) w
-item_by l w (Pair b c) = Whole (Double b c) w
-item_by l w (Latch t) = Whole (Turn t) w
-item_by l w (Shift t) = complete (length l) (w + width t) (shifted (entry t (field l w (width t))) (w + width t))
+unfoldable pub item_by : List ℕ → ℕ → Entry → Result Found Fault
+item_by l w (Char b) = found_item (Single b) w
+item_by l w (Pair b c) = found_item (Double b c) w
+item_by l w (Latch t) = found_item (Turn t) w
+item_by l w (Shift t) =
+    let n = set_number t in
+    complete (length l) (w + width n) (shifted (entry n (field l w (width n))) (w + width n))
 item_by l w Binary = count_at l w
-item_by l w Flag = Fault 19
-item_by l w Missing = Fault 19
+item_by l w Flag = Err WrongItem
+item_by l w Missing = Err WrongItem
 
 -- what stands at the front of the bits l, read in set s
-unfoldable pub item_at : ℕ → List ℕ → Found
+unfoldable pub item_at : ℕ → List ℕ → Result Found Fault
 item_at s l = complete (length l) (width s) (item_by l (width s) (entry s (field l 0 (width s))))
 
 unfoldable pub bytes_of : ℕ → List ℕ → List ℕ
@@ -87,26 +99,26 @@ extra (Raw n) = 8 * n
 abbrev pub set_after : ℕ → Item → ℕ
 set_after s (Single b) = s
 set_after s (Double b c) = s
-set_after s (Turn t) = t
+set_after s (Turn t) = set_number t
 set_after s (Raw n) = s
 
 -- "if all remaining bits are 1s and fewer than B, stop"
 unfoldable pub stops : ℕ → List ℕ → Bool
 stops B l = all_ones l && ltb (length l) B
 
--- a message, or the number that refuses and the bit place of the item at fault, counted from 0 after the stuffed bits are dropped
+-- a message, or the fault and the bit place of the item at fault, counted from 0 after the stuffed bits are dropped
 pub data Reading : Type 0 where
   message : List ℕ → Reading
-  refused : (number place : ℕ) → Reading
+  refused : (fault : Fault) (place : ℕ) → Reading
 
 abbrev pub prepend : List ℕ → Reading → Reading
 prepend o (message m) = message (o ++ m)
-prepend o (refused n at) = refused n at
+prepend o (refused x at) = refused x at
 
 -- what is found at bit `at` is read in set s, and f goes on, so many bits further and in a set
-abbrev pub proceed : Found → ℕ → ℕ → List ℕ → (ℕ → ℕ → Reading) → Reading
-proceed (Whole i u) at s l f = prepend (adds i (drop u l)) (f (u + extra i) (set_after s i))
-proceed (Fault x) at s l f = refused x at
+abbrev pub proceed : Result Found Fault → ℕ → ℕ → List ℕ → (ℕ → ℕ → Reading) → Reading
+proceed (Ok x) at s l f = prepend (adds x.item (drop x.used l)) (f (x.used + extra x.item) (set_after s x.item))
+proceed (Err x) at s l f = refused x at
 
 -- the bits from bit `at` on, the first k of which are still of the item before
 unfoldable pub read_from : ℕ → ℕ → ℕ → ℕ → List ℕ → Reading
@@ -120,11 +132,11 @@ read_from B zero at s (b ∷ l) =
 unfoldable pub read_items : ℕ → List ℕ → Reading
 read_items B l = read_from B 0 0 0 l
 
--- what corrected data words say: 18 if a word is all 0s or all 1s, else the reading of their items
+-- what corrected data words say: number 18 if a word is all 0s or all 1s, else the reading of their items
 unfoldable pub judge : ℕ → List ℕ → Reading
-judge B words = cond (all (length words) (λ i. not (flat B (get_or words i 0)))) (read_items B (unstuff B words)) (refused 18 0)
+judge B words = cond (all (length words) (λ i. not (flat B (get_or words i 0)))) (read_items B (unstuff B words)) (refused FlatWord 0)
 
--- the numbers of a reading: the message's length, or the refusal
-abbrev pub verdict_of : Reading → Verdict
-verdict_of (message m) = Message (length m)
-verdict_of (refused n at) = Refused n at
+-- what a reader answers of a reading: the message's length, or the refusal
+abbrev pub verdict_of : Reading → Result ℕ Refusal
+verdict_of (message m) = Ok (length m)
+verdict_of (refused x at) = Err (record { fault = x; bit = at })

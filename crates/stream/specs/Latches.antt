@@ -4,7 +4,7 @@ use Rattle.std.specs.Prelude.{Bool, false, List, [], ◌∷◌, ◌++◌, ℕ, e
 use Rattle.stream.specs.declared.codes.Entry.{Entry}
 use Rattle.stream.specs.declared.codes.Entry.TheVariants.{Char, Pair, Latch, Shift, Binary, Flag, Missing}
 use Rattle.stream.specs.Bits.{bits}
-use Rattle.stream.specs.Codes.{row, width, position}
+use Rattle.stream.specs.Codes.{set_number, row, width, position}
 
 -- the sets that are latched to, one after the other, from a set (row) to a set (column): M/L P/L is 2, 3
 unfoldable pub paths : List (List (List ℕ))
@@ -22,7 +22,7 @@ path s t = get_or (get_or paths s []) t []
 abbrev pub is_latch : ℕ → Entry → Bool
 is_latch t (Char b) = false
 is_latch t (Pair b c) = false
-is_latch t (Latch u) = eqb u t
+is_latch t (Latch u) = eqb (set_number u) t
 is_latch t (Shift u) = false
 is_latch t Binary = false
 is_latch t Flag = false

@@ -1,7 +1,6 @@
 pub mod Below
 pub mod Bits
 pub mod Codes
-pub mod CodeNumbers
 pub mod Latches
 pub mod Stream
 pub mod Stuffing

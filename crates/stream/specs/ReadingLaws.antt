@@ -1,6 +1,6 @@
 -- The reader's steps: where it goes on and where it stops, and what one item adds to the message. In words of B bits, B at most 12.
 -- Assumes nothing.
-use Rattle.std.specs.Prelude.{◌≡◌, Bool, drop, replicate}
+use Rattle.std.specs.Prelude.{◌≡◌, Err, Bool, drop, replicate}
 use Rattle.std.proofs.Math.Path.{refl, ap, ap₂}
 use Rattle.std.proofs.Common.{sym, ◌∙◌, add-zero, arith, drop_at}
 use Rattle.std.proofs.Math.Bool.{true, false, cond, ◌&&◌}
@@ -10,10 +10,10 @@ use Rattle.std.proofs.Math.Dec.{ltb}
 use Rattle.std.proofs.Math.ListN.{length, length-append, length-replicate}
 use borrow.Author.Tests.{le-ltb, lt-ltb, ltb-false}
 use Rattle.stream.specs.declared.items.Item.{Item}
-use Rattle.stream.specs.declared.items.Found.TheVariants.{Whole, Fault}
+use Rattle.stream.specs.declared.items.Fault.{Fault}
 use Rattle.stream.specs.Bits.{bits, all_ones}
 use Rattle.stream.specs.Ones.{and-false, ones-append, ones-are, bits-have-zero}
-use Rattle.stream.specs.Items.{message, refused, item_at, adds, extra, set_after, stops, prepend, proceed, read_from}
+use Rattle.stream.specs.Items.{found_item, message, refused, item_at, adds, extra, set_after, stops, prepend, proceed, read_from}
 
 -- the reader does not stop before these bits
 abbrev pub Live : ℕ → List ℕ → Type 0
@@ -67,7 +67,7 @@ module _ (B : ℕ) (some : 0 < B) (small : B ≤ 12) where
   read-stop (b ∷ l) at s e =
       ap (λ t. cond t (message []) (proceed (item_at s (b ∷ l)) at s (b ∷ l) (λ u t. read_from B (u - 1) (at + 1) t l))) e
 
-  pub read-item : (l : List ℕ) (at s u : ℕ) (i : Item) → Live B l → item_at s l ≡ Whole i u → 1 ≤ u
+  pub read-item : (l : List ℕ) (at s u : ℕ) (i : Item) → Live B l → item_at s l ≡ found_item i u → 1 ≤ u
       → read_from B 0 at s l ≡ prepend (adds i (drop u l)) (read_from B 0 (at + (u + extra i)) (set_after s i) (drop (u + extra i) l))
   unfolding read_from stops all_ones
   read-item [] at s u i h e g = absurd (omega (arith, ltb-false 0 B h))
@@ -75,13 +75,13 @@ module _ (B : ℕ) (some : 0 < B) (small : B ≤ 12) where
       ap₂ (λ t f. cond t (message []) (proceed f at s (b ∷ l) (λ u t. read_from B (u - 1) (at + 1) t l))) h e
       ∙ ap (prepend (adds i (drop u (b ∷ l)))) (jump b l (u + extra i) at (set_after s i) (omega arith))
 
-  pub read-fault : (l : List ℕ) (at s x : ℕ) → Live B l → item_at s l ≡ Fault x → read_from B 0 at s l ≡ refused x at
+  pub read-fault : (l : List ℕ) (at s : ℕ) (x : Fault) → Live B l → item_at s l ≡ Err x → read_from B 0 at s l ≡ refused x at
   unfolding read_from stops all_ones
   read-fault [] at s x h e = absurd (omega (arith, ltb-false 0 B h))
   read-fault (b ∷ l) at s x h e = ap₂ (λ t f. cond t (message []) (proceed f at s (b ∷ l) (λ u t. read_from B (u - 1) (at + 1) t l))) h e
 
   -- an item in front: its bits p, the bytes o that it adds
-  pub reads-item : (s u : ℕ) (i : Item) (p q o m : List ℕ) → Live B (p ++ q) → item_at s (p ++ q) ≡ Whole i u → 1 ≤ u
+  pub reads-item : (s u : ℕ) (i : Item) (p q o m : List ℕ) → Live B (p ++ q) → item_at s (p ++ q) ≡ found_item i u → 1 ≤ u
       → length p ≡ u + extra i → adds i (drop u (p ++ q)) ≡ o → Reads B (set_after s i) q m → Reads B s (p ++ q) (o ++ m)
   reads-item s u i p q o m h e g k a r at =
       read-item (p ++ q) at s u i h e g

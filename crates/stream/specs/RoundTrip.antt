@@ -9,16 +9,17 @@ use Rattle.std.proofs.Math.ListN.{length, take, drop}
 use Rattle.std.proofs.Math.Seq.{length-take-le}
 use Rattle.list_laws.specs.Tests.{holds, true_of}
 use Rattle.list_laws.specs.Range.{all, all_of}
+use Rattle.stream.specs.declared.codes.CodeSet.{CodeSet}
 use Rattle.stream.specs.declared.codes.Entry.TheVariants.{Char, Latch, Binary}
 use Rattle.stream.specs.declared.items.Item.TheVariants.{Single, Turn, Raw}
-use Rattle.stream.specs.declared.items.Found.TheVariants.{Whole}
+use Rattle.stream.specs.declared.items.Fault.TheVariants.{FlatWord}
 use Rattle.stream.specs.Below.{Bytes, below-take, below-drop}
 use Rattle.stream.specs.Bits.{bits, value, length-bits, value-of-bits}
-use Rattle.stream.specs.Codes.{entry, width, code_of}
+use Rattle.stream.specs.Codes.{set_number, entry, width, code_of}
 use Rattle.stream.specs.Latches.{path, latch_code, path_bits, latch_bits}
 use Rattle.stream.specs.Stream.{target, char_bits, run_set, count_bits, bytes_bits, binary_bits, part_bits, stream_from}
 use Rattle.stream.specs.Stuffing.{flat, stuff, unstuff}
-use Rattle.stream.specs.Items.{message, field, bytes_at, count_at, item_by, item_at, bytes_of, read_from, read_items, judge, refused}
+use Rattle.stream.specs.Items.{found_item, message, field, bytes_at, count_at, item_by, item_at, bytes_of, read_from, read_items, judge, refused}
 use Rattle.stream.specs.PutLaws.{Codewords}
 use Rattle.stream.specs.StuffingLaws.{codeword-at, unstuff-stuff, stuffed-codewords}
 use Rattle.stream.specs.CodeLaws.{Leads, char-facts, run-facts, width-bounds}
@@ -53,7 +54,7 @@ bytes_back (b ∷ l) q x =
 
 -- the count of n bytes, 8n bits x
 count-back : (n : ℕ) (x q : List ℕ) → 1 ≤ n → n ≤ 2078 → length x ≡ 8 * n
-    → count_at (bits 5 31 ++ (count_bits n ++ (x ++ q))) 5 ≡ Whole (Raw n) (5 + length (count_bits n))
+    → count_at (bits 5 31 ++ (count_bits n ++ (x ++ q))) 5 ≡ found_item (Raw n) (5 + length (count_bits n))
 unfolding count_bits
 count-back n x q h g e = go (leb n 31) refl
   where
@@ -61,7 +62,7 @@ count-back n x q h g e = go (leb n 31) refl
     size c = simp (length-append, length-bits, e)
 
     go : (t : Bool) → leb n 31 ≡ t → let c : List ℕ = cond t (bits 5 n) (bits 5 0 ++ bits 11 (n - 31)) in
-        count_at (bits 5 31 ++ (c ++ (x ++ q))) 5 ≡ Whole (Raw n) (5 + length c)
+        count_at (bits 5 31 ++ (c ++ (x ++ q))) 5 ≡ found_item (Raw n) (5 + length c)
     go true z =
         let few = leb-true n 31 z in
         let l = bits 5 31 ++ (bits 5 n ++ (x ++ q)) in
@@ -69,7 +70,7 @@ count-back n x q h g e = go (leb n 31) refl
         let five = length-bits 5 n in
         short-by l 5 n (omega arith) (field_at (bits 5 31) 5 5 n (x ++ q) (length-bits 5 31) (omega arith)) (omega arith)
         ∙ bytes-by l 10 n (omega arith)
-        ∙ ap (λ o. Whole (Raw n) (5 + o)) (sym five)
+        ∙ ap (λ o. found_item (Raw n) (5 + o)) (sym five)
     go false z =
         let many = leb-false n 31 z in
         let c = bits 5 0 ++ bits 11 (n - 31) in
@@ -84,7 +85,7 @@ count-back n x q h g e = go (leb n 31) refl
         ∙ field_at (bits 5 31 ++ bits 5 0) 10 11 (n - 31) (x ++ q) (simp (length-append, length-bits)) (omega arith))
         ∙ ap (bytes_at l 21) (let same : n - 31 + 31 ≡ n = omega arith in same)
         ∙ bytes-by l 21 n (omega arith)
-        ∙ ap (λ o. Whole (Raw n) (5 + o)) (sym sixteen)
+        ∙ ap (λ o. found_item (Raw n) (5 + o)) (sym sixteen)
 
 module _ (B : ℕ) (some : 0 < B) (small : B ≤ 12) where
   reads-char : (s c b : ℕ) (q m : List ℕ) → entry s c ≡ Char b → c < 2 ^ width s - 1 → Reads B s q m
@@ -95,7 +96,7 @@ module _ (B : ℕ) (some : 0 < B) (small : B ≤ 12) where
       (item-code s c (width s) q refl (omega arith) ∙ ap (item_by (bits (width s) c ++ q) (width s)) e) (omega (arith, width-bounds s))
       (length-bits (width s) c ∙ sym (add-zero (width s))) refl r
 
-  reads-latch : (s c t : ℕ) (q m : List ℕ) → entry s c ≡ Latch t → c < 2 ^ width s → Live B q → Reads B t q m
+  reads-latch : (s c : ℕ) (t : CodeSet) (q m : List ℕ) → entry s c ≡ Latch t → c < 2 ^ width s → Live B q → Reads B (set_number t) q m
       → Reads B s (bits (width s) c ++ q) m
   unfolding item_by
   reads-latch s c t q m e h v r =
@@ -109,8 +110,8 @@ module _ (B : ℕ) (some : 0 < B) (small : B ≤ 12) where
   reads-path [] s t q m h v r = subst (λ x. Reads B x q m) (sym h) r
   reads-path (u ∷ ts) s t q m h v r =
       subst (λ l. Reads B s l m) (sym (append_assoc (bits (width s) (latch_code s u)) (path_bits u ts) q))
-      (reads-latch s (latch_code s u) u (path_bits u ts ++ q) m h.0 h.1 (live-append B some small (path_bits u ts) q v)
-      (reads-path ts u t q m h.2 v r))
+      (reads-latch s (latch_code s u) h.0.0 (path_bits u ts ++ q) m h.0.2 h.1 (live-append B some small (path_bits u ts) q v)
+      (subst (λ x. Reads B x (path_bits u ts ++ q) m) (sym h.0.1) (reads-path ts u t q m h.2 v r)))
 
   live-binary : (l q : List ℕ) → 1 ≤ length l → Live B (binary_bits l ++ q)
   live-binary l q h = live-long B some small (binary_bits l ++ q) (omega (arith, length-append (binary_bits l) q, length-binary l))
@@ -134,7 +135,7 @@ module _ (B : ℕ) (some : 0 < B) (small : B ≤ 12) where
       front : binary_bits l ++ q ≡ bits 5 31 ++ (c ++ later)
       front = simp append_assoc
 
-      found : item_at s (binary_bits l ++ q) ≡ Whole (Raw n) (5 + length c)
+      found : item_at s (binary_bits l ++ q) ≡ found_item (Raw n) (5 + length c)
       found =
           ap (item_at s) front
           ∙ item-code s 31 5 (c ++ later) e (omega arith)
@@ -188,7 +189,7 @@ round-trip-by cut lawful text x B low high =
 pub judge-codewords : (B : ℕ) (words : List ℕ) → Codewords B words → judge B words ≡ read_items B (unstuff B words)
 unfolding judge
 judge-codewords B words c =
-    ap (λ t. cond t (read_items B (unstuff B words)) (refused 18 0))
+    ap (λ t. cond t (read_items B (unstuff B words)) (refused FlatWord 0))
     (true_of (all (length words) (λ i. not (flat B (get_or words i 0))))
     (all_of (length words) (λ i. not (flat B (get_or words i 0))) (λ i h. holds (ap not (codeword-at B words c i h).uneven))))
 

@@ -11,7 +11,7 @@ ghost use Rattle.stream.specs.Items.{judge, verdict_of};
 ghost use Rattle.stream_reader.specs.Written.{Room, written};
 ghost use Rattle.stream_c.specs.Judged.{judged_of};
 
-use stream::items::Verdict;
+use stream::items::Refusal;
 
 #[unsafe(no_mangle)]
 pub extern "C" fn stream_count(message: &[u8], word_size: u32) -> usize
@@ -38,18 +38,20 @@ pub struct Judged {
     pub value: usize,
 }
 
-fn numbers_of(verdict: Verdict) -> Judged
-    ensures { result ≡ judged_of verdict }
-{
-    match verdict {
-        Verdict::Message(n) => Judged {
-            number: 0,
-            value: n,
-        },
-        Verdict::Refused(x, at) => Judged {
-            number: x,
-            value: at,
-        },
+impl From<Result<usize, Refusal>> for Judged {
+    ghost from_gives = { λ verdict numbers. numbers ≡ judged_of verdict };
+
+    fn from(verdict: Result<usize, Refusal>) -> Judged {
+        match verdict {
+            Ok(length) => Judged {
+                number: 0,
+                value: length,
+            },
+            Err(refusal) => Judged {
+                number: u32::from(refusal.fault),
+                value: refusal.bit,
+            },
+        }
     }
 }
 
@@ -60,7 +62,7 @@ pub extern "C" fn stream_judge(words: &[u16], word_size: u32) -> Judged
     requires fact_3 { length words.now ≤ 65536 }
     ensures { result ≡ judged_of (verdict_of (judge word_size words.now)) }
 {
-    numbers_of(stream_reader::message::judge(words, word_size as usize))
+    Judged::from(stream_reader::message::judge(words, word_size as usize))
 }
 
 #[unsafe(no_mangle)]

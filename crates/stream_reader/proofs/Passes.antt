@@ -1,58 +1,47 @@
--- A turn of the reader's loops over items, at bit `at` of the words' stream, which is bit j of word w.
+-- The reader's loop over items: what a step of it reads, at bit `at` of the stream l, and a test of all words.
 -- Assumes nothing.
+use Rattle.std.specs.Prelude.{Ok, Err}
+use Rattle.std.specs.List.{list_all}
+use Rattle.std.proofs.Math.Bool.{and-true}
 use mathlib.Core.Path.{◌≡◌, refl, sym, ap, ◌∙◌}
-use mathlib.Core.Bool.{true, false}
-use mathlib.Core.List.{List}
-use Prim.Native.Nat.{ℕ, ◌+◌, ◌-◌, ◌≤◌, ◌<◌}
+use mathlib.Core.Bool.{Bool, true, false, ◌&&◌}
+use mathlib.Core.List.{List, [], ◌∷◌}
+use Prim.Native.Nat.{ℕ, zero, suc, ◌+◌, ◌≤◌, ◌<◌}
 use native.Mathlib.Omega.{arith}
-use lib.ListN.{length, drop, length-drop}
-use lib.Seq.{drop-drop}
-use denote.Enum.Declared.{tag_of}
+use lib.ListN.{length, get_or, drop}
+use Rattle.list_laws.specs.Range.{all}
 use Rattle.stream.specs.declared.items.Item.{Item}
-use Rattle.stream.specs.declared.items.Found.{Found}
-use Rattle.stream.specs.declared.items.Found.TheVariants.{Whole, Fault}
-use Rattle.stream.specs.declared.items.Verdict.TheVariants.{Message, Refused}
-use Rattle.stream.specs.Stuffing.{unstuff_from}
-use Rattle.stream.specs.StuffingLaws.{unstuff-is-bits}
-use Rattle.stream.specs.Items.{adds, yields, extra, set_after, stops, item_at, read_items, verdict_of}
-use Rattle.stream.specs.contracts.items.Found.{the_type}
-use Rattle.item_reader.specs.Places.{rest, Stands}
+use Rattle.stream.specs.declared.items.Fault.{Fault}
+use Rattle.stream.specs.Below.{Bits}
+use Rattle.stream.specs.Ones.{and_assoc}
+use Rattle.stream.specs.Items.{found_item, adds, yields, extra, set_after, stops, item_at, read_items, verdict_of}
 use Rattle.stream_reader.specs.Scan.{Counted, counted-more, length-adds, scan-item, scan-fault, scan-stop}
 
-module _ (h : ℕ) (words : List ℕ) (at w j : ℕ) (s : Stands h words at w j) where
-  pub bits_left : (total : ℕ) → total ≡ length (unstuff_from h words) → total - at ≡ length (rest h words w j)
-  bits_left total e = omega (arith, s.within, ap length s.here, length-drop at (unstuff_from h words))
+all-first : (n : ℕ) (p : ℕ → Bool) → p zero && all n (λ i. p (suc i)) ≡ all (suc n) p
+unfolding all
+all-first zero p = and-true (p zero)
+all-first (suc n) p =
+    sym (and_assoc (p zero) (all n (λ i. p (suc i))) (p (suc n))) ∙ ap (λ t. t && p (suc n)) (all-first n p)
 
-  pub stands-further : (n w' j' : ℕ) → rest h words w' j' ≡ drop n (rest h words w j) → at + n ≤ length (unstuff_from h words)
-      → Stands h words (at + n) w' j'
-  stands-further n w' j' e f = record { within = f; here = e ∙ ap (drop n) s.here ∙ drop-drop n at (unstuff_from h words) }
+-- a test of each word, by its index
+pub all-words : (p : ℕ → Bool) (xs : List ℕ) → list_all p xs ≡ all (length xs) (λ i. p (get_or xs i 0))
+unfolding all
+all-words p [] = refl
+all-words p (x ∷ xs) = ap (λ t. p x && t) (all-words p xs) ∙ all-first (length xs) (λ i. p (get_or (x ∷ xs) i 0))
 
-  module _ (B : ℕ) (some : 0 < B) (small : B ≤ 12) (set n : ℕ) (k : Counted B (unstuff_from h words) at set n) where
-    l : List ℕ
-    l = unstuff_from h words
+module _ (B : ℕ) (some : 0 < B) (small : B ≤ 12) (l : List ℕ) (x : Bits l) (at s n : ℕ) (k : Counted B l at s n) where
+  -- an item more
+  pub counted-item : (i : Item) (u at' s' m : ℕ) → stops B (drop at l) ≡ false → item_at s (drop at l) ≡ found_item i u
+      → at' ≡ at + (u + extra i) → s' ≡ set_after s i → m ≡ yields i
+      → (1 ≤ u) × (at' ≤ length l) × (n + m ≤ length l) × Counted B l at' s' (n + m)
+  counted-item i u at' s' m v e a q o =
+      let r = scan-item B some small l x at s k.done k.read i u v e in
+      let next = counted-more (yields i) (adds i (drop u (drop at l))) k (length-adds i (drop u (drop at l))) r.1 in
+      rw (a, q, o) (r.0, next.read.within, omega (arith, next.read.within, next.read.few, next.size), next)
 
-    -- an item more, of x bits after its codes and m bytes
-    pub counted-item : (i : Item) (u x set' m : ℕ) → stops B (rest h words w j) ≡ false → item_at set (rest h words w j) ≡ Whole i u
-        → x ≡ extra i → set' ≡ set_after set i → m ≡ yields i
-        → (1 ≤ u) × (at + (u + x) ≤ length (unstuff_from h words)) × (n + m ≤ length (unstuff_from h words))
-        × Counted B (unstuff_from h words) (at + (u + x)) set' (n + m)
-    unfolding l
-    counted-item i u x set' m v e p q o =
-        let r = scan-item B some small l (unstuff-is-bits h words) at set k.done k.read i u (rw s.here at v) (rw s.here at e) in
-        let next = counted-more (yields i) (adds i (drop u (drop at l))) k (length-adds i (drop u (drop at l))) r.1 in
-        rw (p, q, o) (r.0, next.read.within, omega (arith, next.read.within, next.read.few, next.size), next)
+  pub counted-fault : (f : Fault) → stops B (drop at l) ≡ false → item_at s (drop at l) ≡ Err f
+      → Err (record { fault = f; bit = at }) ≡ verdict_of (read_items B l)
+  counted-fault f v e = sym (ap verdict_of (scan-fault B some small l x at s k.done k.read f v e))
 
-    pub counted-fault : (f : Found) (x : ℕ) → tag_of the_type f ≡ 1 → ((y : ℕ) → f ≡ Fault y → x ≡ y) → stops B (rest h words w j) ≡ false
-        → f ≡ item_at set (rest h words w j) → Refused x at ≡ verdict_of (read_items B (unstuff_from h words))
-    counted-fault (Whole i u) x g y v e = absurd (omega arith)
-    counted-fault (Fault z) x g y v e =
-        ap (λ n. Refused n at) (y z refl)
-        ∙ sym
-        (ap verdict_of
-        (scan-fault B some small (unstuff_from h words) (unstuff-is-bits h words) at set k.done k.read z (rw s.here at v) (rw s.here at (sym e))))
-
-    pub counted_stop : stops B (rest h words w j) ≡ true → Message n ≡ verdict_of (read_items B (unstuff_from h words))
-    counted_stop e =
-        ap Message (sym k.size)
-        ∙ sym
-        (ap verdict_of (scan-stop B some small (unstuff_from h words) (unstuff-is-bits h words) at set k.done k.read (rw s.here at e)))
+  pub counted_stop : stops B (drop at l) ≡ true → Ok n ≡ verdict_of (read_items B l)
+  counted_stop e = ap Ok (sym k.size) ∙ sym (ap verdict_of (scan-stop B some small l x at s k.done k.read e))

@@ -1,36 +1,39 @@
 -- The reader's loop over items: what each item leaves to read, and what has been read so far.
 -- Assumes nothing.
-use Rattle.std.specs.Prelude.{◌≡◌, Bool, cond, List, [], ◌∷◌, ◌++◌, ℕ, zero, suc, ◌+◌, ◌*◌, ◌≤◌, ◌<◌, eqb, leb, length, take, drop}
+use Rattle.std.specs.Prelude.{◌≡◌, Result, Ok, Err, Bool, cond, List, [], ◌∷◌, ◌++◌, ℕ, zero, suc, ◌+◌, ◌*◌, ◌≤◌, ◌<◌, eqb, leb, length, take, drop}
 use Rattle.std.proofs.Math.Path.{refl}
 use Rattle.std.proofs.Common.{sym, ap, ap₂, ◌∙◌, subst, append_assoc, append-nil, add-zero, add_assoc, add-one, length-append, length-drop, drop-drop, leb-true}
 use Rattle.std.proofs.Math.Bool.{true, false}
 use native.Mathlib.Omega.{arith}
 use Rattle.std.proofs.Math.Pow.{pow_mono}
+use Rattle.stream.specs.declared.codes.CodeSet.{CodeSet}
 use Rattle.stream.specs.declared.codes.Entry.{Entry}
 use Rattle.stream.specs.declared.codes.Entry.TheVariants.{Char, Pair, Latch, Shift, Binary, Flag, Missing}
 use Rattle.stream.specs.declared.items.Item.{Item}
 use Rattle.stream.specs.declared.items.Item.TheVariants.{Single, Double, Turn, Raw}
 use Rattle.stream.specs.declared.items.Found.{Found}
-use Rattle.stream.specs.declared.items.Found.TheVariants.{Whole, Fault}
+use Rattle.stream.specs.declared.items.Fault.{Fault}
+use Rattle.stream.specs.declared.items.Fault.TheVariants.{CutShort}
 use Rattle.stream.specs.Below.{Bits, below-drop}
 use Rattle.stream.specs.Bits.{value}
-use Rattle.stream.specs.Codes.{entry, width}
-use Rattle.stream.specs.Items.{Reading, message, refused, prepend, stops, read_from, read_items}
+use Rattle.stream.specs.Codes.{set_number, set-number-below, entry, width}
+use Rattle.stream.specs.Items.{found_item, Reading, message, refused, prepend, stops, read_from, read_items}
 use Rattle.stream.specs.Items.{field, complete, shifted, bytes_at, count_at, item_by, item_at, bytes_of, adds, yields, extra, set_after}
-use Rattle.stream.specs.CodeLaws.{latch-set, width-bounds}
+use Rattle.stream.specs.CodeLaws.{width-bounds}
 use Rattle.stream.specs.ItemLaws.{field_below}
 use Rattle.stream.specs.ReadingLaws.{Live, read-item, read-fault, read-stop}
 
 -- an item in set s, where `left` bits are left: it takes bits, no more than there are and no fewer than its bytes, and leads to a set
-abbrev pub Sound : ℕ → ℕ → Found → Type 0
-Sound left s (Whole i u) = (1 ≤ u) × (u + extra i ≤ left) × (yields i ≤ u + extra i) × (set_after s i < 5)
-Sound left s (Fault x) = Unit {0}
+abbrev pub Sound : ℕ → ℕ → Result Found Fault → Type 0
+Sound left s (Ok f) =
+    (1 ≤ f.used) × (f.used + extra f.item ≤ left) × (yields f.item ≤ f.used + extra f.item) × (set_after s f.item < 5)
+Sound left s (Err x) = Unit {0}
 
-complete-sound : (left s n : ℕ) (f : Found) → (n ≤ left → Sound left s f) → Sound left s (complete left n f)
+complete-sound : (left s n : ℕ) (f : Result Found Fault) → (n ≤ left → Sound left s f) → Sound left s (complete left n f)
 unfolding complete
 complete-sound left s n f g = go (leb n left) refl
   where
-    go : (t : Bool) → leb n left ≡ t → Sound left s (cond t f (Fault 20))
+    go : (t : Bool) → leb n left ≡ t → Sound left s (cond t f (Err CutShort))
     go true e = g (leb-true n left e)
     go false e = tt
 
@@ -46,7 +49,7 @@ module _ (s : ℕ) (five : s < 5) where
 
   bytes-sound : (l : List ℕ) (o n : ℕ) → 1 ≤ o → Sound (length l) s (bytes_at l o n)
   unfolding bytes_at
-  bytes-sound l o n h = complete-sound (length l) s (o + 8 * n) (Whole (Raw n) o) (λ g. omega arith)
+  bytes-sound l o n h = complete-sound (length l) s (o + 8 * n) (found_item (Raw n) o) (λ g. omega arith)
 
   count-sound : (l : List ℕ) (o : ℕ) → Sound (length l) s (count_at l o)
   unfolding count_at
@@ -61,10 +64,11 @@ module _ (s : ℕ) (five : s < 5) where
   unfolding item_by
   entry-sound l w c (Char b) q k h g = omega arith
   entry-sound l w c (Pair x y) q k h g = omega arith
-  entry-sound l w c (Latch t) q k h g = let five = latch-set s c t five k q in omega arith
+  entry-sound l w c (Latch t) q k h g = let known = set-number-below t in omega arith
   entry-sound l w c (Shift t) q k h g =
-      let u = w + width t in
-      complete-sound (length l) s u _ (λ f. shifted-sound (length l) u (entry t (field l w (width t))) (omega arith) f)
+      let n = set_number t in
+      let u = w + width n in
+      complete-sound (length l) s u _ (λ f. shifted-sound (length l) u (entry n (field l w (width n))) (omega arith) f)
   entry-sound l w c Binary q k h g = count-sound l w
   entry-sound l w c Flag q k h g = tt
   entry-sound l w c Missing q k h g = tt
@@ -121,11 +125,11 @@ module _ (B : ℕ) (some : 0 < B) (small : B ≤ 12) (l : List ℕ) (x : Bits l)
 
   module _ (at s : ℕ) (done : List ℕ) (k : Scanned B l at s done) where
     -- an item more
-    pub scan-item : (i : Item) (u : ℕ) → Live B (drop at l) → item_at s (drop at l) ≡ Whole i u
+    pub scan-item : (i : Item) (u : ℕ) → Live B (drop at l) → item_at s (drop at l) ≡ found_item i u
         → (1 ≤ u) × Scanned B l (at + (u + extra i)) (set_after s i) (done ++ adds i (drop u (drop at l)))
     scan-item i u v e =
         let left = length (drop at l) in
-        let sound : Sound left s (Whole i u) = subst (Sound left s) e (item-sound s k.set (drop at l) (below-drop 2 at l x)) in
+        let sound : Sound left s (found_item i u) = subst (Sound left s) e (item-sound s k.set (drop at l) (below-drop 2 at l x)) in
         let n = u + extra i in (
           sound.0,
           record {
@@ -140,22 +144,22 @@ module _ (B : ℕ) (some : 0 < B) (small : B ≤ 12) (l : List ℕ) (x : Bits l)
         )
 
     -- by the kind of item
-    pub scan-single : (b u : ℕ) → Live B (drop at l) → item_at s (drop at l) ≡ Whole (Single b) u
+    pub scan-single : (b u : ℕ) → Live B (drop at l) → item_at s (drop at l) ≡ found_item (Single b) u
         → (1 ≤ u) × Scanned B l (at + u) s (done ++ b ∷ [])
     scan-single b u v e = let r = scan-item (Single b) u v e in (r.0, rw add-zero at r.1)
 
-    pub scan-double : (b c u : ℕ) → Live B (drop at l) → item_at s (drop at l) ≡ Whole (Double b c) u
+    pub scan-double : (b c u : ℕ) → Live B (drop at l) → item_at s (drop at l) ≡ found_item (Double b c) u
         → (1 ≤ u) × Scanned B l (at + u) s (done ++ b ∷ c ∷ [])
     scan-double b c u v e = let r = scan-item (Double b c) u v e in (r.0, rw add-zero at r.1)
 
-    pub scan-turn : (t u : ℕ) → Live B (drop at l) → item_at s (drop at l) ≡ Whole (Turn t) u → (1 ≤ u) × Scanned B l (at + u) t done
+    pub scan-turn : (t : CodeSet) (u : ℕ) → Live B (drop at l) → item_at s (drop at l) ≡ found_item (Turn t) u → (1 ≤ u) × Scanned B l (at + u) (set_number t) done
     scan-turn t u v e = let r = scan-item (Turn t) u v e in (r.0, rw (add-zero, append-nil) at r.1)
 
-    pub scan-raw : (n u : ℕ) → Live B (drop at l) → item_at s (drop at l) ≡ Whole (Raw n) u
+    pub scan-raw : (n u : ℕ) → Live B (drop at l) → item_at s (drop at l) ≡ found_item (Raw n) u
         → (1 ≤ u) × Scanned B l (at + u + 8 * n) s (done ++ bytes_of n (drop (at + u) l))
     scan-raw n u v e = let r = scan-item (Raw n) u v e in (r.0, rw (← add_assoc, drop-drop) at r.1)
 
-    pub scan-fault : (n : ℕ) → Live B (drop at l) → item_at s (drop at l) ≡ Fault n → read_items B l ≡ refused n at
+    pub scan-fault : (n : Fault) → Live B (drop at l) → item_at s (drop at l) ≡ Err n → read_items B l ≡ refused n at
     scan-fault n v e = k.says ∙ ap (prepend done) (read-fault B some small (drop at l) at s n v e)
 
     pub scan-stop : stops B (drop at l) ≡ true → read_items B l ≡ message done

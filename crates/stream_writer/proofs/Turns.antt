@@ -1,20 +1,21 @@
 -- What the encoder's functions find of a byte, and the bits that their calls write one after the other.
 -- Assumes nothing.
+use Rattle.std.specs.Prelude.{Option, Some, None, MatchOption, is_some, not}
+use Rattle.std.specs.List.{prefix_len}
 use borrow.Author.Tests.{lt-ltb, le-ltb, le-leb}
 use mathlib.Core.Path.{◌≡◌, refl, sym, ap, ap₂, ◌∙◌, subst}
-use mathlib.Core.Bool.{true, false, cond}
+use mathlib.Core.Bool.{Bool, true, false, cond}
 use mathlib.Core.List.{List, [], ◌∷◌, ◌++◌, append_assoc, append-nil}
-use Prim.Native.Nat.{ℕ, ◌+◌, ◌-◌, ◌≤◌, ◌<◌}
+use Prim.Native.Nat.{ℕ, suc, ◌+◌, ◌-◌, ◌≤◌, ◌<◌}
 use native.Mathlib.Omega.{arith}
 use native.Mathlib.Numerals.{add-one}
 use lib.ListN.{length, get_or, take, drop, length-drop}
-use lib.Seq.{take-suc, get_or-drop, length-take-le}
-use Rattle.list_laws.specs.Tests.{holds}
+use lib.Seq.{take-suc, length-take-le}
+use Rattle.stream.specs.declared.codes.CodeSet.{CodeSet}
 use Rattle.stream.specs.Bits.{bits, length-bits}
-use Rattle.stream.specs.Codes.{width, code_of, has, home, coded}
+use Rattle.stream.specs.Codes.{set_number, set-number-below, width, code_of, has, home, coded}
 use Rattle.stream.specs.Latches.{latch_bits}
 use Rattle.stream.specs.Stream.{target, char_bits, run_length, run_set, count_bits, bytes_bits, binary_bits, part_bits, stream_from, next_part}
-use Rattle.stream.specs.CodeLaws.{char-facts, run-facts}
 use Rattle.stream.specs.StreamLaws.{run-most, run-more-at, stream-char-at, stream-part-at}
 use Rattle.stream.specs.StreamLength.{length-bytes}
 use Rattle.stream_writer.specs.declared.stuffing.Out.{Out}
@@ -22,26 +23,38 @@ use Rattle.stream_writer.specs.Writing.{Coded, Wrote}
 use Rattle.stream_writer.specs.Encoding.{coded-count, Turned}
 
 -- by the first set that has it
-pub coded-yes : (b r : ℕ) → r ≡ home b → r < 5 → coded b ≡ true
+pub coded-no : (b : ℕ) → home b ≡ 5 → coded b ≡ false
 unfolding coded
-coded-yes b r e h = lt-ltb (home b) 5 (rw e at h)
+coded-no b e = le-ltb (home b) 5 (omega (arith, e))
 
-pub coded-no : (b r : ℕ) → r ≡ home b → 5 ≤ r → coded b ≡ false
+pub coded-by : (b : ℕ) (o : Option (CodeSet × ℕ)) → MatchOption o (home b ≡ 5) (λ h. (set_number h.0 ≡ home b) × (h.1 ≡ code_of (home b) b))
+    → coded b ≡ is_some o
 unfolding coded
-coded-no b r e h = le-ltb (home b) 5 (rw e at h)
+coded-by b (Some h) e = lt-ltb (home b) 5 (omega (arith, e.0, set-number-below h.0))
+coded-by b None e = coded-no b e
 
-pub target-here : (s b r : ℕ) → r ≡ code_of s b → r < 32 → s ≡ target s b
+-- a run's bytes are those before the first that some set has
+pub run-prefix : (m : List ℕ) → run_length m ≡ prefix_len (λ b. not (coded b)) m
+unfolding run_length
+run-prefix [] = refl
+run-prefix (b ∷ m) = go (coded b) (run-prefix m)
+  where
+    go : (t : Bool) → run_length m ≡ prefix_len (λ b. not (coded b)) m
+        → cond t 0 (suc (run_length m)) ≡ cond (not t) (1 + prefix_len (λ b. not (coded b)) m) 0
+    go true e = refl
+    go false e = omega (arith, e)
+
+pub target-here : (s b : ℕ) → code_of s b < 32 → s ≡ target s b
 unfolding target has
-target-here s b r e h = sym (ap (λ t. cond t s (home b)) (lt-ltb (code_of s b) 32 (rw e at h)))
+target-here s b h = sym (ap (λ t. cond t s (home b)) (lt-ltb (code_of s b) 32 h))
 
-pub target-home : (s b r : ℕ) → r ≡ code_of s b → 32 ≤ r → home b ≡ target s b
+pub target-home : (s b : ℕ) → code_of s b ≡ 32 → home b ≡ target s b
 unfolding target has
-target-home s b r e h = sym (ap (λ t. cond t s (home b)) (le-ltb (code_of s b) 32 (rw e at h)))
+target-home s b h = sym (ap (λ t. cond t s (home b)) (le-ltb (code_of s b) 32 (omega (arith, h))))
 
-pub char-by : (s b t n x c w : ℕ) → t ≡ target s b → latch_bits s t ≡ bits n x → c ≡ code_of t b → w ≡ width t
-    → bits n x ++ bits w c ≡ char_bits s b
+pub char-by : (s b t c : ℕ) → t ≡ target s b → c ≡ code_of t b → latch_bits s t ++ bits (width t) c ≡ char_bits s b
 unfolding char_bits
-char-by s b t n x c w e l f g = ap₂ ◌++◌ (sym l) (ap₂ bits g f) ∙ ap (λ t. latch_bits s t ++ bits (width t) (code_of t b)) e
+char-by s b t c e f = ap (λ c. latch_bits s t ++ bits (width t) c) f ∙ ap (λ t. latch_bits s t ++ bits (width t) (code_of t b)) e
 
 bytes-append : (p q : List ℕ) → bytes_bits (p ++ q) ≡ bytes_bits p ++ bytes_bits q
 unfolding bytes_bits
@@ -49,26 +62,17 @@ bytes-append [] q = refl
 bytes-append (b ∷ p) q = ap (λ l. bits 8 b ++ l) (bytes-append p q) ∙ sym (append_assoc (bits 8 b) (bytes_bits p) (bytes_bits q))
 
 -- one byte more
-module _ (m : List ℕ) (from : ℕ) where
-  pub bytes-more : (j : ℕ) → from + j < length m
-      → bytes_bits (take j (drop from m)) ++ bits 8 (get_or m (from + j) 0) ≡ bytes_bits (take (j + 1) (drop from m))
+module _ (l : List ℕ) where
+  pub bytes-more : (j : ℕ) → j < length l → bytes_bits (take j l) ++ bits 8 (get_or l j 0) ≡ bytes_bits (take (j + 1) l)
   unfolding bytes_bits
-  bytes-more j h =
-      let l = drop from m in
-      let inside : j < length l = omega (arith, length-drop from m) in
-      ap (λ b. bytes_bits (take j l) ++ b) (ap (bits 8) (sym (get_or-drop from m j 0)) ∙ sym (append-nil (bits 8 (get_or l j 0))))
+  bytes-more j inside =
+      ap (λ b. bytes_bits (take j l) ++ b) (sym (append-nil (bits 8 (get_or l j 0))))
       ∙ sym (bytes-append (take j l) (get_or l j 0 ∷ []))
       ∙ ap bytes_bits (sym (take-suc l j 0 inside) ∙ ap (λ n. take n l) (sym (add-one j)))
 
-  pub bytes_count : (j : ℕ) {h n k v n' k' v' : ℕ} {a a' : List ℕ} → 1 ≤ h → j ≤ 31 → from + j ≤ length m
-      → Coded h (bytes_bits (take j (drop from m))) n k v a n' k' v' a' → n' ≤ n + 249
-  bytes_count j l s e c =
-      omega (
-        arith,
-        coded-count l c,
-        length-bytes (take j (drop from m)),
-        length-take-le j (drop from m) (omega (arith, length-drop from m)),
-      )
+  pub bytes_count : (j : ℕ) {h n k v n' k' v' : ℕ} {a a' : List ℕ} → 1 ≤ h → j ≤ length l → j ≤ 31
+      → Coded h (bytes_bits (take j l)) n k v a n' k' v' a' → n' ≤ n + 249
+  bytes_count j g s e c = omega (arith, coded-count g c, length-bytes (take j l), length-take-le j l s)
 
 -- a part of at most 31 bytes
 pub part_by : (s t n x : ℕ) (l : List ℕ) → t ≡ run_set s → latch_bits s t ≡ bits n x → length l ≤ 31
@@ -85,22 +89,20 @@ bits-count w x l c = omega (arith, coded-count l c, length-bits w x)
 pub coded-as : {h n k v n' k' v' : ℕ} {t t' a a' : List ℕ} → t ≡ t' → Coded h t n k v a n' k' v' a' → Coded h t' n k v a n' k' v' a'
 coded-as {h} {n} {k} {v} {n'} {k'} {v'} {a = a} {a'} e c = subst (λ t. Coded h t n k v a n' k' v' a') e c
 
-module _ (m : List ℕ) (i s : ℕ) (inside : i < length m) (known : s < 5) where
-  pub target-set : (t : ℕ) → get_or m i 0 < 256 → coded (get_or m i 0) ≡ true → t ≡ target s (get_or m i 0) → t < 5
-  target-set t l e f = rw f (char-facts s (get_or m i 0) known l (holds e)).set
-
-  pub turned-char : {h : ℕ} {o o' : Out} {a a' : List ℕ} (t : ℕ) → get_or m i 0 < 256 → coded (get_or m i 0) ≡ true
-      → t ≡ target s (get_or m i 0) → Wrote h (char_bits s (get_or m i 0)) o a o' a'
-      → Turned h m i s o a (record { out = o'; set = t; next = i + 1 }) a'
-  turned-char t l e f c =
+module _ (m : List ℕ) (i : ℕ) (s : CodeSet) (inside : i < length m) where
+  pub turned-char : {h : ℕ} {o o' : Out} {a a' : List ℕ} (t : CodeSet) (c : ℕ) → coded (get_or m i 0) ≡ true
+      → set_number t ≡ target (set_number s) (get_or m i 0) → c ≡ code_of (set_number t) (get_or m i 0)
+      → Wrote h (latch_bits (set_number s) (set_number t) ++ bits (width (set_number t)) c) o a o' a'
+      → Turned h m i (set_number s) o a (record { out = o'; set = t; next = i + 1 }) a'
+  turned-char t c e f g w =
+      let n = set_number s in
       let b = get_or m i 0 in
       record {
         more = omega arith;
         inside = omega arith;
-        known = target-set t l e f;
-        bits = char_bits s b;
-        written = c;
-        says = stream-char-at next_part m i s inside e ∙ ap (λ t. char_bits s b ++ stream_from next_part 0 t (drop (i + 1) m)) (sym f);
+        bits = char_bits n b;
+        written = coded-as (char-by n b (set_number t) c f g) w;
+        says = stream-char-at next_part m i n inside e ∙ ap (λ t. char_bits n b ++ stream_from next_part 0 t (drop (i + 1) m)) (sym f);
       }
 
   module _ (n : ℕ) (e : coded (get_or m i 0) ≡ false) (f : n ≡ next_part (run_length (drop i m))) where
@@ -108,15 +110,16 @@ module _ (m : List ℕ) (i s : ℕ) (inside : i < length m) (known : s < 5) wher
     unfolding next_part
     part-bounds = omega (arith, f, run-more-at m i inside e, run-most (drop i m), length-drop i m)
 
-    pub turned-part : {h : ℕ} {o o' : Out} {a a' : List ℕ} (t : ℕ) → t ≡ run_set s → Wrote h (part_bits s (take n (drop i m))) o a o' a'
-        → Turned h m i s o a (record { out = o'; set = t; next = i + n }) a'
+    pub turned-part : {h : ℕ} {o o' : Out} {a a' : List ℕ} (t : CodeSet) → set_number t ≡ run_set (set_number s)
+        → Wrote h (part_bits (set_number s) (take n (drop i m))) o a o' a'
+        → Turned h m i (set_number s) o a (record { out = o'; set = t; next = i + n }) a'
     turned-part t g c =
+        let r = set_number s in
         record {
           more = omega (arith, part-bounds);
           inside = part-bounds.2;
-          known = rw g (run-facts s known).set;
-          bits = part_bits s (take n (drop i m));
+          bits = part_bits r (take n (drop i m));
           written = c;
-          says = stream-part-at next_part m i s n inside e (sym f) part-bounds.0
-              ∙ ap (λ t. part_bits s (take n (drop i m)) ++ stream_from next_part 0 t (drop (i + n) m)) (sym g);
+          says = stream-part-at next_part m i r n inside e (sym f) part-bounds.0
+              ∙ ap (λ t. part_bits r (take n (drop i m)) ++ stream_from next_part 0 t (drop (i + n) m)) (sym g);
         }

@@ -5,6 +5,7 @@ use Rattle.std.proofs.Common.{sym, ap, ◌∙◌, subst, append_assoc, append-ni
 use Rattle.stream.specs.declared.stuffing.Put.{Put}
 use Rattle.stream.specs.declared.stuffing.Put.TheVariants.{Part, Word}
 use Rattle.stream.specs.Below.{Bytes}
+use Rattle.stream.specs.Codes.{set_number, set-number-below}
 use Rattle.stream.specs.Stream.{stream_from, next_part, bits_of}
 use Rattle.stream.specs.Stuffing.{put, after, fill, finish, stuff_from, stuff}
 use Rattle.stream.specs.PutLaws.{start}
@@ -58,10 +59,9 @@ none = record { count = 0; bits = 0; value = 0 }
 pub record Turned (h : ℕ) (m : List ℕ) (i s : ℕ) (o : Out) (a : List ℕ) (t : Turn) (a' : List ℕ) : Type 0 where
   pub more : i < t.next
   pub inside : t.next ≤ length m
-  pub known : t.set < 5
   pub bits : List ℕ
   pub written : Wrote h bits o a t.out a'
-  pub says : stream_from next_part 0 s (drop i m) ≡ bits ++ stream_from next_part 0 t.set (drop t.next m)
+  pub says : stream_from next_part 0 s (drop i m) ≡ bits ++ stream_from next_part 0 (set_number t.set) (drop t.next m)
 
 -- the message is written as far as byte i
 pub record Written (h : ℕ) (m a : List ℕ) (i s : ℕ) (o : Out) (a' : List ℕ) : Type 0 where
@@ -76,11 +76,11 @@ unfolding bits_of
 written_none {h} l = record { inside = omega arith; known = omega arith; bits = []; written = coded_none (start h l); says = refl }
 
 pub written-more : {h i s : ℕ} {o : Out} {t : Turn} {m a a' a'' : List ℕ}
-    → Written h m a i s o a' → Turned h m i s o a' t a'' → Written h m a t.next t.set t.out a''
-written-more w t =
+    → Written h m a i s o a' → Turned h m i s o a' t a'' → Written h m a t.next (set_number t.set) t.out a''
+written-more {t = turn} w t =
     record {
       inside = t.inside;
-      known = t.known;
+      known = set-number-below turn.set;
       bits = w.bits ++ t.bits;
       written = coded-then w.written t.written;
       says = append_assoc w.bits t.bits _ ∙ ap (λ l. w.bits ++ l) (sym t.says) ∙ w.says;

@@ -57,9 +57,7 @@ pub fn put_code(words: &mut [u16], out: Out, h: usize, code: usize, width: usize
     let mut n = out.count;
     let mut k = out.bits;
     let mut v = out.value;
-    let mut i = width;
-    while 0 < i {
-        i -= 1;
+    for i in (0..width).rev() {
         match put_bit(h, k, v, (code >> i) % 2) {
             Put::Part(bits, value) => {
                 k = bits;
@@ -80,7 +78,7 @@ pub fn put_code(words: &mut [u16], out: Out, h: usize, code: usize, width: usize
     }
 }
 
-// The last word, filled with 1s; how many words there are.
+// The last word, filled with 1s; how many words there are. put_bit says when the word is whole, which no range tells.
 pub fn finish(words: &mut [u16], out: Out, h: usize) -> usize
     requires { Ready h 4000000 out }
     ensures { Ending h out.count out.bits out.value words.old result 0 0 words.new }

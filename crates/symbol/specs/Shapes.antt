@@ -78,6 +78,18 @@ unfolding bits
 bits_most false L h = bits_below 88 L (omega arith) h
 bits_most true L h = bits_below 112 L (omega arith) h
 
+-- four layers have few
+pub few_bits : (f : Bool) (L : ℕ) → L ≤ 4 → bits f L ≤ 704
+unfolding bits
+few_bits f L h = go f
+  where
+    below : (a : ℕ) → a ≤ 112 → (a + 16 * L) * L ≤ 704
+    below a k = le_trans (mul-le-mul {n₁ = a + 16 * L} {m₁ = L} {n₂ = 176} {m₂ = 4} (omega arith) h) (omega arith)
+
+    go : (f : Bool) → bits f L ≤ 704
+    go false = below 88 (omega arith)
+    go true = below 112 (omega arith)
+
 pub word-size-range : (L : ℕ) → (6 ≤ word_size L) × (word_size L ≤ 12)
 unfolding word_size
 word-size-range L = go (leb L 2) (leb L 8) (leb L 22)

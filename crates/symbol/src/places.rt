@@ -2,11 +2,11 @@
 // here; drawing and reading go through the table.
 ghost use Rattle.std.specs.Prelude.{◌≡◌, ℕ, ◌+◌, ◌*◌, ◌≤◌, ◌<◌, length};
 ghost use Rattle.list_laws.specs.Writes.{writes};
-ghost use Rattle.symbol.specs.Shapes.{bits, core, Shaped};
+ghost use Rattle.symbol.specs.Shapes.{bits, core};
 ghost use Rattle.symbol.specs.Places.{turned, domino, shifted, spread, data_place, core_place, orientation_place, mode_run, mode_column, mode_place};
 ghost use Rattle.symbol.specs.Walk.{Lined, InTable, table_place, run, within, Ready};
 
-use crate::shapes;
+use crate::shapes::{self, Frame, Position, Shape};
 
 // A row and a column.
 #[derive(Clone, Copy)]
@@ -15,14 +15,15 @@ pub struct Cell {
     pub col: usize,
 }
 
-// Where a cell of a square of side n stands in position p.
-pub fn turned_cell(p: usize, n: usize, row: usize, col: usize) -> Cell
-    requires { (row < n) × (col < n) × (p < 8) }
-    ensures { (result.row ≡ (turned p n row col).0) × (result.col ≡ (turned p n row col).1) }
+// Where a cell of a square of side n stands in a position.
+#[tactic(auto, unfolding(crate::specs::Places::turned))]
+pub fn turned_cell(position: Position, n: usize, row: usize, col: usize) -> Cell
+    requires { (row < n) × (col < n) }
+    ensures { (result.row ≡ (turned position.number n row col).0) × (result.col ≡ (turned position.number n row col).1) }
 {
     let below = n - 1 - row;
     let right = n - 1 - col;
-    match p {
+    match position.number {
         0 => Cell { row, col },
         1 => Cell {
             row: col,
@@ -46,104 +47,98 @@ pub fn turned_cell(p: usize, n: usize, row: usize, col: usize) -> Cell
     }
 }
 
-// The place of a cell of the core square, after some quarter turns of that square, in a symbol of side n.
-fn core_place(full: bool, n: usize, turns: usize, row: usize, col: usize) -> u16
-    requires { (2 * core full < n) × (n ≤ 151) × (turns < 4) × (row ≤ 2 * core full) × (col ≤ 2 * core full) }
-    ensures { result ≡ core_place full n (turned turns (2 * core full + 1) row col) }
+// The place of a cell of the core square, after some quarter turns of that square.
+pub fn core_place(frame: Frame, turns: usize, row: usize, col: usize) -> u16
+    requires { (turns < 4) × (row ≤ 2 * core frame.full) × (col ≤ 2 * core frame.full) }
+    ensures place { result ≡ core_place frame.full frame.side (turned turns (2 * core frame.full + 1) row col) }
+    ensures inside { result < frame.side * frame.side }
 {
-    let core = shapes::core_of(full);
-    let x = turned_cell(turns, 2 * core + 1, row, col);
-    let edge = n / 2 - core;
-    ((edge + x.row) * n + (edge + x.col)) as u16
+    let core = shapes::core_of(frame.full);
+    let turned = Position { number: turns };
+    let x = turned_cell(turned, 2 * core + 1, row, col);
+    let edge = frame.side / 2 - core;
+    ((edge + x.row) * frame.side + (edge + x.col)) as u16
 }
 
+// The twelve orientation modules, clockwise from the one below the top left corner: 111 011 100 000.
+pub const ORIENTATION: [u16; 12] = [1, 1, 1, 0, 1, 1, 1, 0, 0, 0, 0, 0];
+
 // The places of the twelve orientation modules.
-pub fn orientation_places(full: bool, n: usize, places: &mut [u16])
-    requires { (2 * core full < n) × (n ≤ 151) × (12 ≤ length places.old) }
-    ensures { places.new ≡ writes places.old (λ (k : ℕ). k) (orientation_place full n) 12 }
+pub fn orientation_places(frame: Frame, places: &mut [u16])
+    requires { 12 ≤ length places.old }
+    ensures { places.new ≡ writes places.old (λ (k : ℕ). k) (orientation_place frame.full frame.side) 12 }
 {
-    let mut k = 0;
-    while k < 12 {
+    for k in 0..12 {
         let m = k % 3;
-        places[k] = core_place(full, n, k / 3, (3 - m) / 3, m / 2);
-        k += 1;
+        places[k] = core_place(frame, k / 3, (3 - m) / 3, m / 2);
     }
 }
 
 // The number of mode bits on one side.
+#[tactic(auto, unfolding(crate::specs::Places::mode_run))]
 pub fn mode_run_of(full: bool) -> usize
     ensures { result ≡ mode_run full }
 {
-    if full {
-        return 10;
-    }
-    7
+    if full { 10 } else { 7 }
 }
 
 // The column of mode bit j on the upper side, from the core square's corner.
+#[tactic(auto, unfolding(crate::specs::Places::mode_run, crate::specs::Places::mode_column, crate::specs::Shapes::core))]
 fn mode_column(full: bool, j: usize) -> usize
     requires { j < mode_run full }
     ensures { (result ≡ mode_column full j) × (result ≤ 2 * core full) }
 {
-    if full {
-        return 2 + j + j / 5;
-    }
-    2 + j
+    if full { 2 + j + j / 5 } else { 2 + j }
 }
 
 // The places of the mode message's bits on one side of the core ring: `run` bits, side s clockwise from the upper.
-fn mode_side(full: bool, n: usize, run: usize, s: usize, places: &mut [u16])
-    requires { (2 * core full < n) × (n ≤ 151) × (s < 4) × (run ≡ mode_run full) × (4 * mode_run full ≤ length places.old) }
+fn mode_side(frame: Frame, run: usize, s: usize, places: &mut [u16])
+    requires { (s < 4) × (run ≡ mode_run frame.full) × (4 * mode_run frame.full ≤ length places.old) }
     ensures { places.new ≡ writes places.old (λ (j : ℕ). s * run + j)
-        (λ (j : ℕ). mode_place full n (s * run + j)) run }
+        (λ (j : ℕ). mode_place frame.full frame.side (s * run + j)) run }
 {
-    let mut j = 0;
-    while j < run {
-        places[s * run + j] = core_place(full, n, s, 0, mode_column(full, j));
-        j += 1;
+    for j in 0..run {
+        places[s * run + j] = core_place(frame, s, 0, mode_column(frame.full, j));
     }
 }
 
 // The places of the mode message's bits.
-pub fn mode_places(full: bool, n: usize, places: &mut [u16])
-    requires { (2 * core full < n) × (n ≤ 151) × (4 * mode_run full ≤ length places.old) }
-    ensures { places.new ≡ writes places.old (λ (k : ℕ). k) (mode_place full n) (4 * mode_run full) }
+pub fn mode_places(frame: Frame, places: &mut [u16])
+    requires { 4 * mode_run frame.full ≤ length places.old }
+    ensures { places.new ≡ writes places.old (λ (k : ℕ). k) (mode_place frame.full frame.side) (4 * mode_run frame.full) }
 {
-    let run = mode_run_of(full);
-    let mut s = 0;
-    while s < 4 {
-        mode_side(full, n, run, s, places);
-        s += 1;
+    let run = mode_run_of(frame.full);
+    for s in 0..4 {
+        mode_side(frame, run, s, places);
     }
 }
 
 // A row or column of the square without reference lines, among all.
-fn spread_of(full: bool, layers: usize, a: usize) -> usize
-    requires { (layers ≤ 32) × (a < 1000) }
-    ensures { result ≡ spread full layers a }
+#[tactic(auto, unfolding(crate::specs::Places::spread, crate::specs::Shapes::most_layers))]
+fn spread_of(shape: Shape, a: usize) -> usize
+    requires { a < 1000 }
+    ensures { result ≡ spread shape.full shape.layers a }
 {
-    if full {
+    let layers = shape.layers;
+    if shape.full {
         return a + (6 + 2 * layers) / 15 + (a + 68 - 2 * layers) / 15 - 4;
     }
     a
 }
 
 // The same for every row or column, of which the largest square has 142: a table, so that no bit costs a division.
-fn spread_lines(full: bool, layers: usize) -> [u16; 142]
-    requires { Shaped full layers }
-    ensures { Lined full layers result }
+fn spread_lines(shape: Shape) -> [u16; 142]
+    ensures { Lined shape.full shape.layers result }
 {
-    let square = shapes::square_of(full, layers);
     let mut lines = [0u16; 142];
-    let mut a = 0;
-    while a < square {
-        lines[a] = spread_of(full, layers, a) as u16;
-        a += 1;
+    for a in 0..shape.square() {
+        lines[a] = spread_of(shape, a) as u16;
     }
     lines
 }
 
 // Bit b of domino j on side s of the outermost layer of a square: left, bottom, right, top.
+#[tactic(auto, unfolding(crate::specs::Places::domino))]
 fn domino_cell(s: usize, square: usize, j: usize, b: usize) -> Cell
     requires { (j < square) × (b < 2) × (2 ≤ square) × (s < 4) }
     ensures { (result.row ≡ (domino s square j b).0) × (result.col ≡ (domino s square j b).1) }
@@ -202,58 +197,46 @@ fn bit_place(lines: &[u16; 142], n: usize, layer: Layer, s: usize, j: usize, b: 
 }
 
 // The places of the bits on side s of a layer, by dominoes, whose two bits share a line.
-fn side_places(
-    full: bool,
-    layers: usize,
-    lines: &[u16; 142],
-    layer: Layer,
-    s: usize,
-    places: &mut [u16],
-)
-    requires { Ready full layers lines.now layer (length places.old) × (s < 4) }
+fn side_places(shape: Shape, lines: &[u16; 142], layer: Layer, s: usize, places: &mut [u16])
+    requires { Ready shape.full shape.layers lines.now layer (length places.old) × (s < 4) }
     ensures { places.new ≡ writes places.old (λ (m : ℕ). layer.first + (s * run layer + m))
-        (λ (m : ℕ). data_place full layers (layer.first + (s * run layer + m))) (run layer) }
+        (λ (m : ℕ). data_place shape.full shape.layers (layer.first + (s * run layer + m))) (run layer) }
 {
-    let n = shapes::side_of(full, layers);
+    let n = shape.side();
     let dominoes = layer.square - 2;
     let start = layer.first + s * (2 * dominoes);
-    let mut j = 0;
-    while j < dominoes {
+    for j in 0..dominoes {
         let at = start + 2 * j;
         places[at] = bit_place(lines, n, layer, s, j, 0);
         places[at + 1] = bit_place(lines, n, layer, s, j, 1);
-        j += 1;
     }
 }
 
 // The places of a layer's bits, side by side.
-fn layer_places(full: bool, layers: usize, lines: &[u16; 142], layer: Layer, places: &mut [u16])
-    requires { Ready full layers lines.now layer (length places.old) }
+fn layer_places(shape: Shape, lines: &[u16; 142], layer: Layer, places: &mut [u16])
+    requires { Ready shape.full shape.layers lines.now layer (length places.old) }
     ensures { places.new ≡ writes places.old (λ (m : ℕ). layer.first + m)
-        (λ (m : ℕ). data_place full layers (layer.first + m)) (4 * run layer) }
+        (λ (m : ℕ). data_place shape.full shape.layers (layer.first + m)) (4 * run layer) }
 {
-    let mut s = 0;
-    while s < 4 {
-        side_places(full, layers, lines, layer, s, places);
-        s += 1;
+    for s in 0..4 {
+        side_places(shape, lines, layer, s, places);
     }
 }
 
 // The places of all data bits, from the outermost layer inward.
-pub fn data_places(full: bool, layers: usize, places: &mut [u16])
-    requires fact_1 { Shaped full layers }
-    requires fact_2 { bits full layers ≤ length places.old }
-    ensures { places.new ≡ writes places.old (λ (i : ℕ). i) (data_place full layers) (bits full layers) }
+pub fn data_places(shape: Shape, places: &mut [u16])
+    requires { bits shape.full shape.layers ≤ length places.old }
+    ensures { places.new ≡ writes places.old (λ (i : ℕ). i) (data_place shape.full shape.layers) (bits shape.full shape.layers) }
 {
-    let lines = spread_lines(full, layers);
+    let lines = spread_lines(shape);
     let mut layer = Layer {
-        left: layers,
-        square: shapes::square_of(full, layers),
+        left: shape.layers,
+        square: shape.square(),
         outer: 0,
         first: 0,
     };
     while 0 < layer.left {
-        layer_places(full, layers, &lines, layer, places);
+        layer_places(shape, &lines, layer, places);
         layer = inward(layer);
     }
 }

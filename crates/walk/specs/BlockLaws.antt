@@ -1,30 +1,32 @@
 -- The block's stage as the code meets it: lawful or not, found or not, and its words in the buffers.
 -- Assumes nothing.
-use Rattle.std.specs.Prelude.{◌≡◌, true, false, List, ◌++◌, ℕ, ◌≤◌, length, take}
+use Rattle.std.specs.Prelude.{◌≡◌, Some, true, false, List, ◌++◌, ℕ, ◌≤◌, length, take}
 use Rattle.std.proofs.Common.{sym, ◌∙◌, subst, le_refl, arith, length-take, take_all}
 use Rattle.std.proofs.Math.Path.{ap}
-use Rattle.std.proofs.Math.Bool.{cond}
 use Rattle.std.proofs.Math.Option.{none, some}
 use Rattle.std.proofs.lemmas.List.{take-append-le}
 use Rattle.stream.specs.Items as items
-use Rattle.recovery.specs.Stages.{lawful_mode, failed_mode}
-use Rattle.walk.specs.declared.Layout.{Layout}
-use Rattle.walk.specs.declared.Outcome.TheVariants.{Unlawful, Uncorrected, Faulty}
-use Rattle.walk.specs.Walk.{Walk, ended, reading_of, checks, erasures, nearest_block, stream_walk, found_walk, block_walk, lawful_walk}
+use Rattle.recovery.specs.declared.said.Failed.{Failed}
+use Rattle.recovery.specs.Stages.{lawful_mode}
+use Rattle.recovery.specs.FailedMode.{failed_conditions, lawful-none, unlawful-some}
+use Rattle.walk.specs.declared.Refusal.TheVariants.{Unlawful, Uncorrected, Faulty}
+use Rattle.walk.specs.Walk.{Layout, Walk, ended, reading_of, checks, erasures, nearest_block, stream_walk, found_walk, block_walk, lawful_by, lawful_walk}
 use Rattle.walk.specs.Walk.{Left, ended-left}
 
 module _ (l : Layout) (received unread : List ℕ) where
-  abbrev failed : ℕ → Walk
-  failed n = ended (Unlawful (failed_mode l.full n l.layers l.data_words))
-
   pub walk-lawful : (n : ℕ) → lawful_mode l.full n l.layers l.data_words ≡ true
       → lawful_walk l received unread n ≡ block_walk l received unread
   unfolding lawful_walk
-  walk-lawful n e = ap (λ b. cond b (block_walk l received unread) (failed n)) e
+  walk-lawful n e = ap (lawful_by l received unread) (lawful-none l.full n l.layers l.data_words e)
 
-  pub walk-unlawful : (n : ℕ) → lawful_mode l.full n l.layers l.data_words ≡ false → lawful_walk l received unread n ≡ failed n
+  pub walk-failed : (n : ℕ) {failed : Failed} → failed_conditions l.full n l.layers l.data_words ≡ Some failed
+      → lawful_walk l received unread n ≡ ended (Unlawful failed)
   unfolding lawful_walk
-  walk-unlawful n e = ap (λ b. cond b (block_walk l received unread) (failed n)) e
+  walk-failed n e = ap (lawful_by l received unread) e
+
+  pub walk-unlawful : (n : ℕ) (e : lawful_mode l.full n l.layers l.data_words ≡ false)
+      → lawful_walk l received unread n ≡ ended (Unlawful (unlawful-some l.full n l.layers l.data_words e).0)
+  walk-unlawful n e = walk-failed n (unlawful-some l.full n l.layers l.data_words e).1
 
   pub block-found : (found : List ℕ) → nearest_block l received unread ≡ some found
       → block_walk l received unread ≡ stream_walk l received unread found (reading_of l found)
@@ -44,7 +46,7 @@ module _ (l : Layout) (received unread : List ℕ) where
         unread-left = take_all _ unread (le_refl _);
         found_left = take_all _ found (le_refl _);
       }
-  stream-left found (items.refused k bit) = ended-left (Faulty k bit) received unread found
+  stream-left found (items.refused x bit) = ended-left (Faulty (record { fault = x; bit = bit })) received unread found
 
   pub block-left : {r u : List ℕ} (found : List ℕ) → r ≡ received → u ≡ unread → nearest_block l received unread ≡ some found
       → Left (block_walk l received unread) r u found

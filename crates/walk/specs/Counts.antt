@@ -1,14 +1,15 @@
 -- The two counts of an answer, from what a walk keeps: a mark for each word that has an unread module, and the words received and found.
 -- They are e and r of block_code, with those marks; and over a grid `unread_words` and `wrong_words`.
 -- Assumes nothing.
-use Rattle.std.specs.Prelude.{◌≡◌, refl, Bool, ◌&&◌, List, ℕ, length, get_or}
-use Rattle.std.proofs.Common.{sym, ◌∙◌, eq-eqb, ne_eqb}
+use Rattle.std.specs.Prelude.{◌≡◌, refl, Bool, true, false, cond, ◌&&◌, List, [], ◌∷◌, ℕ, zero, suc, ◌+◌, ◌≤◌, length, get_or, take, count_by}
+use Rattle.std.proofs.Common.{arith, sym, ◌∙◌, eq-eqb, ne_eqb}
 use Rattle.std.proofs.Math.Path.{ap, ap₂}
 use Rattle.std.proofs.Math.Bool.{not}
 use Rattle.std.proofs.Math.Decide.{ℕ_discrete}
 use Rattle.std.proofs.Math.Dec.{eqb}
+use Rattle.std.proofs.lemmas.List.Sums.{sum_by-cons}
 use Rattle.list_laws.specs.Filled.{tabulate, length-tabulate, get_or-tabulate}
-use Rattle.list_laws.specs.Range.{count, count_same}
+use Rattle.list_laws.specs.Range.{one, count, count_none, count-first, count_same}
 use Rattle.block_code.specs.Nearest.{marked, differ}
 use Rattle.block_code.specs.Nearest as code
 use Rattle.symbol.specs.Shapes.{word_size, words}
@@ -34,6 +35,24 @@ marked_all marks = refl
 pub wrong-all : (received marks found : List ℕ) → wrong_of (length received) received marks found ≡ differ received marks found
 unfolding wrong_of
 wrong-all received marks found = refl
+
+-- as the items of the front that pass
+one-first : (b : Bool) (n : ℕ) → one b + n ≡ cond b 1 0 + n
+one-first true n = refl
+one-first false n = refl
+
+marked-front : (n : ℕ) (marks : List ℕ) → n ≤ length marks → count_by (λ x. eqb x 1) (take n marks) ≡ count n (marked marks)
+marked-front zero marks h = sym (count_none (marked marks))
+marked-front (suc n) [] h = absurd (omega arith)
+marked-front (suc n) (x ∷ l) h =
+    sum_by-cons (λ x. cond (eqb x 1) 1 0) x (take n l)
+    ∙ sym (one-first (eqb x 1) (count_by (λ x. eqb x 1) (take n l)))
+    ∙ ap (λ k. one (eqb x 1) + k) (marked-front n l (omega arith))
+    ∙ sym (count-first n (marked (x ∷ l)))
+
+pub marked-counted : (n : ℕ) (marks : List ℕ) → n ≤ length marks → count_by (λ x. eqb x 1) (take n marks) ≡ marked_of n marks
+unfolding marked_of
+marked-counted n marks h = marked-front n marks h
 
 eqb-sym : (a b : ℕ) → eqb a b ≡ eqb b a
 eqb-sym a b = go (ℕ_discrete a b)

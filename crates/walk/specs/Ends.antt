@@ -1,7 +1,7 @@
 -- What the end of a walk says of the grid: for each outcome what held at the stages before, and why it is that outcome; and that a grid of
 -- which this holds ends so.
 -- Assumes nothing.
-use Rattle.std.specs.Prelude.{◌≡◌, ◌⊎◌, true, false, not, List, ℕ, ◌+◌, ◌*◌, ◌≤◌, ◌<◌, eqb, length}
+use Rattle.std.specs.Prelude.{◌≡◌, Ok, Err, Some, ◌⊎◌, true, false, not, List, ℕ, ◌+◌, ◌*◌, ◌≤◌, ◌<◌, eqb, length}
 use Rattle.std.proofs.Math.Path.{refl, ap, ap₂, subst}
 use Rattle.std.proofs.Common.{sym, ◌∙◌, inl, inr, ⊎_elim, arith, eqb-true}
 use Rattle.std.proofs.Math.Bool.{Bool, cond}
@@ -16,15 +16,18 @@ use Rattle.orientation.specs.Position.{position}
 use Rattle.orientation.specs.PositionLaws.{found-best}
 use Rattle.orientation.specs.Placement.{best_matches, best_positions}
 use Rattle.recovery.specs.Stages.{mode_in, said_layers, said_words, lawful_mode, failed_mode, block_words_in}
+use Rattle.recovery.specs.declared.said.Failed.{Failed}
+use Rattle.recovery.specs.FailedMode.{failed_number, failed_conditions, conditions-number, unlawful-some}
 use Rattle.recovery.specs.Said.{said-shaped}
 use Rattle.recovery.specs.LawfulWords.{found-nibbles}
-use Rattle.walk.specs.declared.Layout.{Layout}
-use Rattle.walk.specs.declared.Outcome.{Outcome}
-use Rattle.walk.specs.declared.Outcome.TheVariants.{Refused, Unplaced, Unlawful, Uncorrected, Faulty, Says}
-use Rattle.walk.specs.Walk.{number_of, Walk, ended, reading_of, checks, erasures, nearest_block, stream_walk, found_walk}
+use Rattle.orientation.specs.declared.position.Unplaced.{Unplaced as Cause}
+use Rattle.stream.specs.declared.items.Refusal as items-of
+use Rattle.walk.specs.declared.Refusal.{Refusal}
+use Rattle.walk.specs.declared.Refusal.TheVariants.{Side, Length, Module, Unplaced, Mode, Unlawful, Uncorrected, Faulty}
+use Rattle.walk.specs.Walk.{Layout, Outcome, says, refusal_number, number_of, Walk, ended, reading_of, checks, erasures, nearest_block, stream_walk, found_walk}
 use Rattle.walk.specs.Walk.{block_walk, lawful_walk, layout_of, unread_in, shape_walk, mode_walk, place_walk, grid_walk, walk_of}
 use Rattle.walk.specs.Faults.{refusal}
-use Rattle.walk.specs.BlockLaws.{walk-lawful, walk-unlawful}
+use Rattle.walk.specs.BlockLaws.{walk-lawful, walk-failed}
 use Rattle.walk.specs.Upright.{lawful-parts}
 use Rattle.walk.specs.GridLaws.{side-refused, length-refused, module-refused, grid-taken}
 
@@ -59,25 +62,25 @@ module _ (g : List ℕ) (n : ℕ) where
   -- The ends
 
   -- 11, 12, 13 and 15
-  pub data Plain : ℕ → Type 0 where
-    no-side : is_side n ≡ false → Plain 11
-    no_size : is_side n ≡ true → (length g ≡ n * n → ⊥) → Plain 12
-    no-module : is_side n ≡ true → length g ≡ n * n → lawful_modules g ≡ false → Plain 13
-    no_mode : (f : Bool) (p : ℕ) → Placed f p → mode_in f n p g ≡ none → Plain 15
+  pub data Plain : Refusal → Type 0 where
+    no-side : is_side n ≡ false → Plain Side
+    no_size : is_side n ≡ true → (length g ≡ n * n → ⊥) → Plain Length
+    no-module : is_side n ≡ true → length g ≡ n * n → lawful_modules g ≡ false → Plain Module
+    no_mode : (f : Bool) (p : ℕ) → Placed f p → mode_in f n p g ≡ none → Plain Mode
 
   -- 14
-  pub record NoPosition (best positions : ℕ) : Type 0 where
+  pub record NoPosition (cause : Cause) : Type 0 where
     pub taken : Taken
     pub no-position : position (looks_full n g) n g ≡ none
-    pub best-is : best_matches (looks_full n g) n g ≡ best
-    pub positions-are : best_positions (looks_full n g) n g ≡ positions
+    pub best-is : best_matches (looks_full n g) n g ≡ cause.best
+    pub positions-are : best_positions (looks_full n g) n g ≡ cause.positions
 
   -- 16
-  pub record NoShape (failed : ℕ) : Type 0 where
+  pub record NoShape (failed : Failed) : Type 0 where
     pub layout : Layout
     pub moded : ModeRead layout
     pub unlawful : lawful_mode layout.full n layout.layers layout.data_words ≡ false
-    pub failed-is : failed_mode layout.full n layout.layers layout.data_words ≡ failed
+    pub failed-is : failed_conditions layout.full n layout.layers layout.data_words ≡ Some failed
 
   -- 17
   pub record NoBlock (e K : ℕ) : Type 0 where
@@ -90,14 +93,14 @@ module _ (g : List ℕ) (n : ℕ) where
     pub checks-are : checks layout ≡ K
 
   -- 18, 19, 20
-  pub record NoMessage (number bit : ℕ) : Type 0 where
+  pub record NoMessage (cause : items-of.Refusal) : Type 0 where
     pub layout : Layout
     pub received : List ℕ
     pub unread : List ℕ
     pub sampled : Sampled layout received unread
     pub found : List ℕ
     pub block-is : nearest_block layout received unread ≡ some found
-    pub refused-at : reading_of layout found ≡ items.refused number bit
+    pub refused-at : reading_of layout found ≡ items.refused cause.fault cause.bit
 
   -- a message, with the words that it was read from
   pub record Message (l : Layout) (bytes : ℕ) (received unread found text : List ℕ) : Type 0 where
@@ -106,13 +109,19 @@ module _ (g : List ℕ) (n : ℕ) where
     pub message-is : reading_of l found ≡ items.message text
     pub size : length text ≡ bytes
 
+  abbrev pub EndsBy : Refusal → Type 0
+  EndsBy Side = Plain Side
+  EndsBy Length = Plain Length
+  EndsBy Module = Plain Module
+  EndsBy (Unplaced cause) = NoPosition cause
+  EndsBy Mode = Plain Mode
+  EndsBy (Unlawful failed) = NoShape failed
+  EndsBy (Uncorrected e K) = NoBlock e K
+  EndsBy (Faulty cause) = NoMessage cause
+
   abbrev pub EndsIn : Walk → Outcome → Type 0
-  EndsIn w (Refused k) = Plain k
-  EndsIn w (Unplaced best positions) = NoPosition best positions
-  EndsIn w (Unlawful failed) = NoShape failed
-  EndsIn w (Uncorrected e K) = NoBlock e K
-  EndsIn w (Faulty k bit) = NoMessage k bit
-  EndsIn w (Says l bytes) = Message l bytes w.received w.unread w.found w.text
+  EndsIn w (Ok message) = Message message.layout message.bytes w.received w.unread w.found w.text
+  EndsIn w (Err refusal) = EndsBy refusal
 
   abbrev Ends : Walk → Type 0
   Ends w = EndsIn w w.outcome
@@ -123,7 +132,7 @@ module _ (g : List ℕ) (n : ℕ) where
     stream-ends : (found : List ℕ) → nearest_block l received unread ≡ some found → (r : items.Reading)
         → reading_of l found ≡ r → Ends (stream_walk l received unread found r)
     stream-ends found e (items.message text) j = record { sampled = s; block-is = e; message-is = j; size = refl }
-    stream-ends found e (items.refused k bit) j =
+    stream-ends found e (items.refused x bit) j =
         record { layout = l; received = received; unread = unread; sampled = s; found = found; block-is = e; refused-at = j }
 
     found-ends : (o : Option (List ℕ)) → nearest_block l received unread ≡ o → Ends (found_walk l received unread o)
@@ -151,7 +160,9 @@ module _ (g : List ℕ) (n : ℕ) where
       go true e =
           subst Ends (sym (walk-lawful l r u n e))
           (block-ends l r u (record { moded = m; lawful = e; received_is = refl; unread-is = refl }))
-      go false e = subst Ends (sym (walk-unlawful l r u n e)) (record { layout = l; moded = m; unlawful = e; failed-is = refl })
+      go false e =
+          let x = unlawful-some f n L D e in
+          subst Ends (sym (walk-failed l r u n x.1)) (record { layout = l; moded = m; unlawful = e; failed-is = x.1 })
 
   mode-ends : (f : Bool) (p : ℕ) → Placed f p → (o : Option (List ℕ)) → mode_in f n p g ≡ o → Ends (mode_walk g f n p o)
   mode-ends f p a none e = no_mode f p a e
@@ -173,7 +184,7 @@ module _ (g : List ℕ) (n : ℕ) where
   walk_ends = by_side (is_side n) refl
     where
       after : Bool → Bool → Walk
-      after size modules = cond (not size) (ended (Refused 12)) (cond (not modules) (ended (Refused 13)) (grid_walk g n))
+      after size modules = cond (not size) (ended Length) (cond (not modules) (ended Module) (grid_walk g n))
 
       by-modules : is_side n ≡ true → length g ≡ n * n → (b : Bool) → lawful_modules g ≡ b → Ends (after true b)
       by-modules s z false e = no-module s z e
@@ -183,7 +194,7 @@ module _ (g : List ℕ) (n : ℕ) where
       by_size s false e = no_size s (eqb-false _ _ e)
       by_size s true e = by-modules s (eqb-true _ _ e) (lawful_modules g) refl
 
-      by_side : (b : Bool) → is_side n ≡ b → Ends (cond (not b) (ended (Refused 11)) (after (eqb (length g) (n * n)) (lawful_modules g)))
+      by_side : (b : Bool) → is_side n ≡ b → Ends (cond (not b) (ended Side) (after (eqb (length g) (n * n)) (lawful_modules g)))
       by_side false e = no-side e
       by_side true e = by_size e (eqb (length g) (n * n)) refl
 
@@ -207,59 +218,68 @@ module _ (g : List ℕ) (n : ℕ) where
   unfolding block_walk
   sampled-walk {l} s = moded-walk s.moded ∙ walk-lawful l _ _ n s.lawful ∙ ap₂ (block_walk l) s.received_is s.unread-is
 
-  pub plain_walk : {k : ℕ} → Plain k → walk_of g n ≡ ended (Refused k)
+  pub plain_walk : {r : Refusal} → Plain r → walk_of g n ≡ ended r
   plain_walk (no-side s) = side-refused g n s
   plain_walk (no_size s z) = length-refused g n s z
   plain_walk (no-module s z m) = module-refused g n s z m
   plain_walk (no_mode f p a e) = placed-walk a ∙ ap (mode_walk g f n p) e
 
-  pub unplaced-walk : {best positions : ℕ} → NoPosition best positions → walk_of g n ≡ ended (Unplaced best positions)
+  pub unplaced-walk : {cause : Cause} → NoPosition cause → walk_of g n ≡ ended (Unplaced cause)
   unfolding grid_walk
   unplaced-walk u =
       grid-taken g n u.taken.side-is u.taken.size_is u.taken.modules-are
       ∙ ap (place_walk g (looks_full n g) n) u.no-position
-      ∙ ap₂ (λ b p. ended (Unplaced b p)) u.best-is u.positions-are
+      ∙ ap₂ (λ b p. ended (Unplaced (record { best = b; positions = p }))) u.best-is u.positions-are
 
-  pub unlawful-walk : {failed : ℕ} → NoShape failed → walk_of g n ≡ ended (Unlawful failed)
-  unlawful-walk u =
-      moded-walk u.moded ∙ walk-unlawful u.layout _ _ n u.unlawful ∙ ap (λ k. ended (Unlawful k)) u.failed-is
+  pub unlawful-walk : {failed : Failed} → NoShape failed → walk_of g n ≡ ended (Unlawful failed)
+  unlawful-walk u = moded-walk u.moded ∙ walk-failed u.layout _ _ n u.failed-is
 
   pub uncorrected-walk : {e K : ℕ} → NoBlock e K → walk_of g n ≡ ended (Uncorrected e K)
   uncorrected-walk u =
       sampled-walk u.sampled ∙ ap (found_walk u.layout u.received u.unread) u.no_block
       ∙ ap₂ (λ e K. ended (Uncorrected e K)) u.erasures-are u.checks-are
 
-  pub faulty-walk : {k bit : ℕ} → NoMessage k bit → walk_of g n ≡ ended (Faulty k bit)
+  pub faulty-walk : {cause : items-of.Refusal} → NoMessage cause → walk_of g n ≡ ended (Faulty cause)
   faulty-walk u =
       sampled-walk u.sampled ∙ ap (found_walk u.layout u.received u.unread) u.block-is
       ∙ ap (stream_walk u.layout u.received u.unread u.found) u.refused-at
 
   pub message-walk : {l : Layout} {bytes : ℕ} {received unread found text : List ℕ} → Message l bytes received unread found text
-      → walk_of g n ≡ record { outcome = Says l bytes; received = received; unread = unread; found = found; text = text }
+      → walk_of g n ≡ record { outcome = says l bytes; received = received; unread = unread; found = found; text = text }
   message-walk {l} {bytes} {received} {unread} {found} {text} m =
       sampled-walk m.sampled ∙ ap (found_walk l received unread) m.block-is ∙ ap (stream_walk l received unread found) m.message-is
-      ∙ ap (λ k. record { outcome = Says l k; received = received; unread = unread; found = found; text = text }) m.size
+      ∙ ap (λ k. record { outcome = says l k; received = received; unread = unread; found = found; text = text }) m.size
 
   -- What that gives of a number
 
+  -- 16 goes with 1 if the side's condition fails, 2 if D's, 3 if both
+  pub unlawful-number : {failed : Failed} (u : NoShape failed)
+      → failed_mode u.layout.full n u.layout.layers u.layout.data_words ≡ failed_number (Some failed)
+  unlawful-number u =
+      sym (conditions-number u.layout.full n u.layout.layers u.layout.data_words) ∙ ap failed_number u.failed-is
+
   -- 18 is of the whole block and goes with bit 0
-  pub faulty-number : {k bit : ℕ} → NoMessage k bit → ((k ≡ 18) × (bit ≡ 0)) ⊎ (k ≡ 19) ⊎ (k ≡ 20)
+  pub faulty-number : {cause : items-of.Refusal} → NoMessage cause
+      → (let k = items.number_of cause.fault in ((k ≡ 18) × (cause.bit ≡ 0)) ⊎ (k ≡ 19) ⊎ (k ≡ 20))
   faulty-number m = ⊎_elim inl (λ x. inr x.0) (refusal _ _ m.refused-at)
 
-  plain-number : {k : ℕ} → Plain k → 11 ≤ k
+  plain-number : {r : Refusal} → Plain r → 11 ≤ refusal_number r
   plain-number (no-side s) = omega arith
   plain-number (no_size s z) = omega arith
   plain-number (no-module s z m) = omega arith
   plain-number (no_mode f p a e) = omega arith
 
   -- "0 is success": it comes with a message alone
-  pub only-message : (w : Walk) (o : Outcome) → EndsIn w o → number_of o ≡ 0 → (l : Layout) × (bytes : ℕ) × (o ≡ Says l bytes)
-  only-message w (Says l bytes) h e = (l, bytes, refl)
-  only-message w (Refused k) h e = absurd (omega (arith, plain-number h))
-  only-message w (Unplaced best positions) h e = absurd (omega arith)
-  only-message w (Unlawful failed) h e = absurd (omega arith)
-  only-message w (Uncorrected x K) h e = absurd (omega arith)
-  only-message w (Faulty k bit) h e =
+  pub only-message : (w : Walk) (o : Outcome) → EndsIn w o → number_of o ≡ 0 → (l : Layout) × (bytes : ℕ) × (o ≡ says l bytes)
+  only-message w (Ok message) h e = (message.layout, message.bytes, refl)
+  only-message w (Err Side) h e = absurd (omega arith)
+  only-message w (Err Length) h e = absurd (omega arith)
+  only-message w (Err Module) h e = absurd (omega arith)
+  only-message w (Err (Unplaced cause)) h e = absurd (omega arith)
+  only-message w (Err Mode) h e = absurd (omega arith)
+  only-message w (Err (Unlawful failed)) h e = absurd (omega arith)
+  only-message w (Err (Uncorrected x K)) h e = absurd (omega arith)
+  only-message w (Err (Faulty cause)) h e =
       ⊎_elim (λ x. absurd (omega (arith, x.0))) (⊎_elim (λ x. absurd (omega arith)) (λ x. absurd (omega arith))) (faulty-number h)
 
   -- What that gives of a layout

@@ -1,6 +1,6 @@
 -- The number and the bit of data words that say no message: 18 and bit 0, or 19 or 20 and a bit that they reach.
 -- Assumes nothing.
-use Rattle.std.specs.Prelude.{◌≡◌, refl, ◌⊎◌, Bool, cond, List, [], ◌∷◌, eqb, leb, get_or, drop}
+use Rattle.std.specs.Prelude.{◌≡◌, Result, Ok, Err, refl, ◌⊎◌, Bool, cond, List, [], ◌∷◌, eqb, leb, get_or, drop}
 use Rattle.std.proofs.Common.{subst, inr}
 use Rattle.std.proofs.Math.Logic.{inl, ⊎_elim}
 use Rattle.std.proofs.Math.Bool.{true, false, not}
@@ -13,27 +13,28 @@ use Rattle.stream.specs.declared.codes.Entry.{Entry}
 use Rattle.stream.specs.declared.codes.Entry.TheVariants.{Char, Pair, Latch, Shift, Binary, Flag, Missing}
 use Rattle.stream.specs.declared.items.Item.TheVariants.{Raw}
 use Rattle.stream.specs.declared.items.Found.{Found}
-use Rattle.stream.specs.declared.items.Found.TheVariants.{Whole, Fault}
-use Rattle.stream.specs.Codes.{entry, width}
+use Rattle.stream.specs.declared.items.Fault.{Fault}
+use Rattle.stream.specs.declared.items.Fault.TheVariants.{FlatWord, CutShort}
+use Rattle.stream.specs.Codes.{set_number, entry, width}
 use Rattle.stream.specs.Stuffing.{flat, unstuff_from, unstuff}
 use Rattle.stream.specs.StuffingLaws.{unstuff-length}
 use Rattle.stream.specs.Items as items
-use Rattle.stream.specs.Items.{field, complete, shifted, bytes_at, count_at, item_by, item_at}
+use Rattle.stream.specs.Items.{number_of, found_item, field, complete, shifted, bytes_at, count_at, item_by, item_at}
 use Rattle.stream.specs.Items.{Reading, adds, extra, set_after, prepend, proceed, stops, read_from, read_items, judge}
 
 -- an item's fault has number 19 or 20
 
-abbrev Numbered : Found → Type 0
-Numbered (Whole i u) = Unit {0}
-Numbered (Fault k) = (k ≡ 19) ⊎ (k ≡ 20)
+abbrev Numbered : Result Found Fault → Type 0
+Numbered (Ok f) = Unit {0}
+Numbered (Err x) = (number_of x ≡ 19) ⊎ (number_of x ≡ 20)
 
-pick : (b : Bool) (f g : Found) → Numbered f → Numbered g → Numbered (cond b f g)
+pick : (b : Bool) (f g : Result Found Fault) → Numbered f → Numbered g → Numbered (cond b f g)
 pick true f g p q = p
 pick false f g p q = q
 
-complete-numbered : (left n : ℕ) (f : Found) → Numbered f → Numbered (complete left n f)
+complete-numbered : (left n : ℕ) (f : Result Found Fault) → Numbered f → Numbered (complete left n f)
 unfolding complete
-complete-numbered left n f h = pick (leb n left) f (Fault 20) h (inr refl)
+complete-numbered left n f h = pick (leb n left) f (Err CutShort) h (inr refl)
 
 shifted-numbered : (e : Entry) (u : ℕ) → Numbered (shifted e u)
 shifted-numbered (Char b) u = tt
@@ -48,15 +49,15 @@ count-numbered : (l : List ℕ) (o : ℕ) → Numbered (count_at l o)
 unfolding count_at bytes_at
 count-numbered l o =
     complete-numbered (length l) (o + 5) _ (pick (eqb (field l o 5) 0) _ _
-    (complete-numbered (length l) (o + 16) _ (complete-numbered (length l) _ (Whole (Raw (field l (o + 5) 11 + 31)) (o + 16)) tt))
-    (complete-numbered (length l) _ (Whole (Raw (field l o 5)) (o + 5)) tt))
+    (complete-numbered (length l) (o + 16) _ (complete-numbered (length l) _ (found_item (Raw (field l (o + 5) 11 + 31)) (o + 16)) tt))
+    (complete-numbered (length l) _ (found_item (Raw (field l o 5)) (o + 5)) tt))
 
 item-by-numbered : (l : List ℕ) (w : ℕ) (e : Entry) → Numbered (item_by l w e)
 unfolding item_by
 item-by-numbered l w (Char b) = tt
 item-by-numbered l w (Pair b c) = tt
 item-by-numbered l w (Latch t) = tt
-item-by-numbered l w (Shift t) = complete-numbered (length l) _ _ (shifted-numbered (entry t (field l w (width t))) (w + width t))
+item-by-numbered l w (Shift t) = complete-numbered (length l) _ _ (let n = set_number t in shifted-numbered (entry n (field l w (width n))) (w + width n))
 item-by-numbered l w Binary = count-numbered l w
 item-by-numbered l w Flag = inl refl
 item-by-numbered l w Missing = inl refl
@@ -69,7 +70,7 @@ item-numbered s l = complete-numbered (length l) (width s) _ (item-by-numbered l
 
 abbrev Faulted : ℕ → Reading → Type 0
 Faulted n (items.message m) = Unit {0}
-Faulted n (items.refused k bit) = ((k ≡ 19) ⊎ (k ≡ 20)) × (bit ≤ n)
+Faulted n (items.refused x bit) = ((number_of x ≡ 19) ⊎ (number_of x ≡ 20)) × (bit ≤ n)
 
 prepend-faulted : (n : ℕ) (o : List ℕ) (r : Reading) → Faulted n r → Faulted n (prepend o r)
 prepend-faulted n o (items.message m) h = tt
@@ -83,13 +84,15 @@ read-faulted B (b ∷ l) (suc k) at s =
     (read-faulted B l k (at + 1) s)
 read-faulted B (b ∷ l) zero at s = stop (stops B (b ∷ l)) (λ k t. read-faulted B l k (at + 1) t)
   where
-    on : (f : Found) → Numbered f → ((k s : ℕ) → Faulted (at + 1 + length l) (read_from B k (at + 1) s l))
+    on : (f : Result Found Fault) → Numbered f → ((k s : ℕ) → Faulted (at + 1 + length l) (read_from B k (at + 1) s l))
         → Faulted (at + length (b ∷ l)) (proceed f at s (b ∷ l) (λ u t. read_from B (u - 1) (at + 1) t l))
-    on (Whole i u) h ih =
-        prepend-faulted (at + length (b ∷ l)) (adds i (drop u (b ∷ l))) (read_from B (u + extra i - 1) (at + 1) (set_after s i) l)
-        (subst (λ n. Faulted n (read_from B (u + extra i - 1) (at + 1) (set_after s i) l))
-        (let e : at + 1 + length l ≡ at + suc (length l) = omega arith in e) (ih (u + extra i - 1) (set_after s i)))
-    on (Fault k) h ih = (h, omega arith)
+    on (Ok f) h ih =
+        let k = f.used + extra f.item - 1 in
+        let t = set_after s f.item in
+        prepend-faulted (at + length (b ∷ l)) (adds f.item (drop f.used (b ∷ l))) (read_from B k (at + 1) t l)
+        (subst (λ n. Faulted n (read_from B k (at + 1) t l))
+        (let e : at + 1 + length l ≡ at + suc (length l) = omega arith in e) (ih k t))
+    on (Err x) h ih = (h, omega arith)
 
     stop : (t : Bool) → ((k s : ℕ) → Faulted (at + 1 + length l) (read_from B k (at + 1) s l))
         → Faulted (at + length (b ∷ l))
@@ -104,20 +107,20 @@ Refusal n k bit = ((k ≡ 18) × (bit ≡ 0)) ⊎ (((k ≡ 19) ⊎ (k ≡ 20)) �
 
 abbrev RefusedBy : ℕ → Reading → Type 0
 RefusedBy n (items.message m) = Unit {0}
-RefusedBy n (items.refused k bit) = Refusal n k bit
+RefusedBy n (items.refused x bit) = Refusal n (number_of x) bit
 
 faulted-refused : (n : ℕ) (r : Reading) → Faulted (0 + n) r → RefusedBy n r
 faulted-refused n (items.message m) h = tt
 faulted-refused n (items.refused k bit) h = inr (h.0, omega (arith, h.1))
 
-module _ (B : ℕ) (words : List ℕ) {k bit : ℕ} (e : judge B words ≡ items.refused k bit) where
-  pub refusal : Refusal (length (unstuff B words)) k bit
+module _ (B : ℕ) (words : List ℕ) {x : Fault} {bit : ℕ} (e : judge B words ≡ items.refused x bit) where
+  pub refusal : Refusal (length (unstuff B words)) (number_of x) bit
   refusal = subst (RefusedBy (length (unstuff B words))) e judged
     where
       judged : RefusedBy (length (unstuff B words)) (judge B words)
       judged = unfold judge read_items in go (all (length words) (λ i. not (flat B (get_or words i 0))))
         where
-          go : (t : Bool) → RefusedBy (length (unstuff B words)) (cond t (read_from B 0 0 0 (unstuff B words)) (items.refused 18 0))
+          go : (t : Bool) → RefusedBy (length (unstuff B words)) (cond t (read_from B 0 0 0 (unstuff B words)) (items.refused FlatWord 0))
           go true = faulted-refused _ (read_from B 0 0 0 (unstuff B words)) (read-faulted B (unstuff B words) 0 0 0)
           go false = inl (refl, refl)
 

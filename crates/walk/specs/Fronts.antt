@@ -9,8 +9,7 @@ use Rattle.list_laws.specs.Filled.{length-tabulate}
 use Rattle.block_code.specs.NearestLaws.{some_near}
 use Rattle.symbol.specs.Shapes.{words}
 use Rattle.recovery.specs.Stages.{block_words_in}
-use Rattle.walk.specs.declared.Layout.{Layout}
-use Rattle.walk.specs.Walk.{Walk, reading_of, nearest_block, stream_walk, found_walk, unread_in, walk_of, Left}
+use Rattle.walk.specs.Walk.{Layout, Walk, reading_of, nearest_block, stream_walk, found_walk, unread_in, walk_of, Left}
 use Rattle.walk.specs.Saying.{SaysMessage}
 use Rattle.walk.specs.Ends.{Sampled, Message, sampled-walk}
 

@@ -11,3 +11,4 @@ pub mod UprightLaws
 pub mod Ends
 pub mod Fronts
 pub mod BlockIn
+pub mod Told

@@ -1,7 +1,7 @@
 -- A message has no more bytes than its stream has bits, and so a buffer of 19,968 bytes holds every message.
 -- Assumes nothing.
 use Rattle.std.proofs.Math.Path.{◌≡◌, subst}
-use Rattle.std.specs.Prelude.{Bool, List, [], ◌∷◌, get_or, drop}
+use Rattle.std.specs.Prelude.{Result, Ok, Err, Bool, List, [], ◌∷◌, get_or, drop}
 use Rattle.std.proofs.Math.Bool.{true, false, not, cond}
 use Prim.Native.Nat.{ℕ, zero, suc, ◌+◌, ◌-◌, ◌≤◌, ◌<◌}
 use Rattle.std.proofs.Math.Nat.{mul-le-mul}
@@ -10,7 +10,8 @@ use Rattle.std.proofs.Math.ListN.{length}
 use Rattle.std.proofs.Common.{length-append}
 use Rattle.list_laws.specs.Range.{all}
 use Rattle.stream.specs.declared.items.Found.{Found}
-use Rattle.stream.specs.declared.items.Found.TheVariants.{Whole, Fault}
+use Rattle.stream.specs.declared.items.Fault.{Fault}
+use Rattle.stream.specs.declared.items.Fault.TheVariants.{FlatWord}
 use Rattle.stream.specs.Below.{Bits}
 use Rattle.stream.specs.Stuffing.{flat, unstuff_from, unstuff}
 use Rattle.stream.specs.StuffingLaws.{unstuff-is-bits, unstuff-length}
@@ -36,13 +37,14 @@ read-most B (b ∷ l) x (suc k) at s five =
     (read-most B l x.1 k (at + 1) s five)
 read-most B (b ∷ l) x zero at s five = stop (stops B (b ∷ l)) (read-most B l x.1)
   where
-    on : (f : Found) → Sound (length (b ∷ l)) s f → ((k at s : ℕ) → s < 5 → Most (length l - k) (read_from B k at s l))
+    on : (f : Result Found Fault) → Sound (length (b ∷ l)) s f → ((k at s : ℕ) → s < 5 → Most (length l - k) (read_from B k at s l))
         → Most (length (b ∷ l) - 0) (proceed f at s (b ∷ l) (λ u t. read_from B (u - 1) (at + 1) t l))
-    on (Whole i u) q ih =
-        let k = u + extra i - 1 in
-        prepend-most (length l - k) (length (b ∷ l) - 0) (adds i (drop u (b ∷ l))) (read_from B k (at + 1) (set_after s i) l)
-        (omega (arith, length-adds i (drop u (b ∷ l)))) (ih k (at + 1) (set_after s i) q.3)
-    on (Fault n) q ih = tt
+    on (Ok f) q ih =
+        let k = f.used + extra f.item - 1 in
+        prepend-most (length l - k) (length (b ∷ l) - 0) (adds f.item (drop f.used (b ∷ l)))
+        (read_from B k (at + 1) (set_after s f.item) l)
+        (omega (arith, length-adds f.item (drop f.used (b ∷ l)))) (ih k (at + 1) (set_after s f.item) q.3)
+    on (Err x) q ih = tt
 
     stop : (t : Bool) → ((k at s : ℕ) → s < 5 → Most (length l - k) (read_from B k at s l))
         → Most (length (b ∷ l) - 0)
@@ -55,7 +57,7 @@ module _ (B : ℕ) (words text : List ℕ) where
   unfolding judge read_items unstuff
   message-length e = go (all (length words) (λ i. not (flat B (get_or words i 0)))) e
     where
-      go : (t : Bool) → cond t (read_from B 0 0 0 (unstuff_from (B - 1) words)) (items.refused 18 0) ≡ items.message text
+      go : (t : Bool) → cond t (read_from B 0 0 0 (unstuff_from (B - 1) words)) (items.refused FlatWord 0) ≡ items.message text
           → length text ≤ length (unstuff_from (B - 1) words)
       go true e =
           let l = unstuff_from (B - 1) words in

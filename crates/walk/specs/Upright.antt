@@ -1,13 +1,13 @@
 -- The stages over the grid turned upright, u, as the code has them.
 -- Assumes nothing.
-use Rattle.std.specs.Prelude.{◌≡◌, refl, Bool, true, false, List, ℕ, ◌+◌, ◌≤◌, eqb, leb}
+use Rattle.std.specs.Prelude
+use Rattle.std.specs.Prelude.{◌≡◌, Result, Ok, Err, Some, None, refl, Bool, true, false, List, ℕ, ◌+◌, ◌≤◌, eqb, leb}
 use Rattle.std.proofs.Common.{subst, arith, eqb→eq, leb→le}
 use Rattle.std.proofs.Math.Option.{Option, none, some}
 use Rattle.list_laws.specs.Tests.{both-parts, holds}
 use Rattle.finite_field.specs.Field.{size_of}
 use Rattle.block_code.specs.Nearest.{nearest}
-use Rattle.stream.specs.declared.items.Verdict.{Verdict}
-use Rattle.stream.specs.declared.items.Verdict.TheVariants.{Message, Refused}
+use Rattle.stream.specs.declared.items.Refusal.{Refusal}
 use Rattle.stream.specs.Items as items
 use Rattle.symbol.specs.Shapes.{side, words, most_words, Shaped}
 use Rattle.sampling.specs.Sampled.{mode_words_of, mode_marks_of, block_words_of, block_marks_of}
@@ -15,36 +15,34 @@ use Rattle.encoder.specs.ModeMessage.{mode_checks}
 use Rattle.recovery.specs.Stages.{said_layers, said_words, lawful_mode}
 use Rattle.recovery.specs.Said.{said-some, said-shaped, said-most}
 use Rattle.recovery.specs.LawfulWords.{found-nibbles}
-use Rattle.walk.specs.declared.Layout.{Layout}
-use Rattle.walk.specs.declared.Outcome.{Outcome}
-use Rattle.walk.specs.declared.Outcome.TheVariants as Out
+use Rattle.walk.specs.declared.Refusal.TheVariants as Out
 use Rattle.walk.specs.declared.mode.Said.{Said}
-use Rattle.walk.specs.declared.mode.Said.TheVariants.{Words, Nothing}
-use Rattle.walk.specs.Walk.{Walk, ended, stream_walk, lawful_walk, layout_of}
+use Rattle.walk.specs.Walk.{Layout, Outcome, says, Walk, ended, stream_walk, lawful_walk, layout_of}
 
 -- what a verdict makes of a block
-abbrev pub judged_of : Layout → Verdict → Outcome
-judged_of l (Message n) = Out.Says l n
-judged_of l (Refused k bit) = Out.Faulty k bit
+abbrev pub judged_of : Layout → Result ℕ Refusal → Outcome
+judged_of l (Ok n) = says l n
+judged_of l (Err cause) = Err (Out.Faulty cause)
 
 pub judged-is : (l : Layout) (received unread found : List ℕ) (r : items.Reading)
     → judged_of l (items.verdict_of r) ≡ (stream_walk l received unread found r).outcome
 judged-is l received unread found (items.message text) = refl
-judged-is l received unread found (items.refused k bit) = refl
+judged-is l received unread found (items.refused x bit) = refl
 
 -- L and D that corrected mode words say
-abbrev pub said_of : Bool → Option (List ℕ) → Said
-said_of f none = Nothing
-said_of f (some ms) = Words (said_layers f ms) (said_words f ms)
+abbrev pub said_of : Bool → Option (List ℕ) → Prelude.Option Said
+said_of f none = None
+said_of f (some ms) = Some (record { layers = said_layers f ms; data_words = said_words f ms })
 
 module _ (u : List ℕ) where
   abbrev pub mode_of : Bool → ℕ → Option (List ℕ)
   mode_of f n = nearest (size_of 4) (mode_checks f) (mode_checks f) (mode_words_of f n u) (mode_marks_of f n u)
 
   -- 15
-  abbrev pub said_walk : Bool → ℕ → ℕ → Said → Walk
-  said_walk f n p Nothing = ended (Out.Refused 15)
-  said_walk f n p (Words L D) = lawful_walk (layout_of f L p D) (block_words_of f L u) (block_marks_of f L u) n
+  abbrev pub said_walk : Bool → ℕ → ℕ → Prelude.Option Said → Walk
+  said_walk f n p None = ended Out.Mode
+  said_walk f n p (Some s) =
+      lawful_walk (layout_of f s.layers p s.data_words) (block_words_of f s.layers u) (block_marks_of f s.layers u) n
 
   abbrev pub upright_walk : Bool → ℕ → ℕ → Walk
   upright_walk f n p = said_walk f n p (said_of f (mode_of f n))
@@ -68,9 +66,9 @@ few false = omega arith
 few true = omega arith
 
 module _ (u : List ℕ) (f : Bool) (n : ℕ) where
-  abbrev SayableIf : Said → Type 0
-  SayableIf (Words L D) = Sayable f L D
-  SayableIf Nothing = Unit {0}
+  abbrev SayableIf : Prelude.Option Said → Type 0
+  SayableIf (Some s) = Sayable f s.layers s.data_words
+  SayableIf None = Unit {0}
 
   sayable-if : (o : Option (List ℕ)) → mode_of u f n ≡ o → SayableIf (said_of f o)
   sayable-if none e = tt
@@ -78,5 +76,5 @@ module _ (u : List ℕ) (f : Bool) (n : ℕ) where
       let h = found-nibbles _ _ _ ms e in
       record { shaped = said-shaped f ms h; least = said-some f ms; most = omega (arith, said-most f ms h, few f) }
 
-  pub sayable : {L D : ℕ} → said_of f (mode_of u f n) ≡ Words L D → Sayable f L D
+  pub sayable : {s : Said} → said_of f (mode_of u f n) ≡ Some s → Sayable f s.layers s.data_words
   sayable e = subst SayableIf e (sayable-if (mode_of u f n) refl)

@@ -14,10 +14,11 @@ use Rattle.sampling.specs.Sampled.{block_words_of, block_marks_of}
 use Rattle.sampling.specs.Sampled.{mode-words-upright, mode-marks-upright, block-words-upright, block-marks-upright}
 use Rattle.encoder.specs.ModeMessage.{mode_checks}
 use Rattle.recovery.specs.Stages.{mode_words_in, mode_marks_in, mode_in, said_layers, said_words, lawful_mode, block_words_in}
+use Rattle.recovery.specs.FailedMode.{unlawful-some}
 use Rattle.recovery.specs.Said.{said-shaped}
 use Rattle.recovery.specs.LawfulWords.{found-nibbles}
 use Rattle.walk.specs.Walk.{lawful_walk, layout_of, unread_in, shape_walk, mode_walk, place_walk}
-use Rattle.walk.specs.BlockLaws.{walk-unlawful}
+use Rattle.walk.specs.BlockLaws.{walk-failed}
 use Rattle.walk.specs.Upright.{said_of, mode_of, said_walk, upright_walk, lawful-parts}
 
 module _ (n p : ℕ) (g before : List ℕ) (room : n * n ≤ length before) {u : List ℕ}
@@ -40,8 +41,9 @@ module _ (n p : ℕ) (g before : List ℕ) (room : n * n ≤ length before) {u :
           ap₂ (λ r m. lawful_walk (layout_of f L p D) r m n) (block-words-upright n p g before room made f L sh is)
           (block-marks-upright n p g before room made f L sh is)
       go false e =
-          walk-unlawful (layout_of f L p D) (block_words_of f L u) (block_marks_of f L u) n e
-          ∙ sym (walk-unlawful (layout_of f L p D) (block_words_in f L p g) (unread_in f L p g) n e)
+          let x = unlawful-some f n L D e in
+          walk-failed (layout_of f L p D) (block_words_of f L u) (block_marks_of f L u) n x.1
+          ∙ sym (walk-failed (layout_of f L p D) (block_words_in f L p g) (unread_in f L p g) n x.1)
 
   -- the whole walk from mode words on
   pub upright-same : upright_walk u f n p ≡ place_walk g f n (some p)

@@ -1,7 +1,8 @@
 -- What becomes of a grid (document 01, "How a grid is read" and numbers 11 to 20): the stages in order, to the first that fails, with what
 -- it knew, or to the block found and what was read. The decoder's answer is a view of this.
 -- Assumes nothing.
-use Rattle.std.specs.Prelude.{◌≡◌, refl, Bool, not, cond, List, [], ℕ, ◌*◌, ◌-◌, eqb, length, take}
+use Rattle.std.specs.Prelude.{◌≡◌, Result, Ok, Err, Some, None, refl, Bool, not, cond, List, [], ℕ, ◌*◌, ◌-◌, eqb, length, take}
+use Rattle.std.specs.Prelude
 use Rattle.std.proofs.Math.Option.{Option, none, some}
 use Rattle.list_laws.specs.Filled.{tabulate}
 use Rattle.finite_field.specs.Field.{size_of}
@@ -16,19 +17,45 @@ use Rattle.orientation.specs.Family.{looks_full}
 use Rattle.orientation.specs.Position.{position}
 use Rattle.orientation.specs.Placement.{best_matches, best_positions}
 use Rattle.sampling.specs.Flat.{flat_marked}
-use Rattle.recovery.specs.Stages.{mode_in, said_layers, said_words, lawful_mode, failed_mode, block_words_in}
-use Rattle.walk.specs.declared.Layout.{Layout}
-use Rattle.walk.specs.declared.Outcome.{Outcome}
-use Rattle.walk.specs.declared.Outcome.TheVariants.{Refused, Unplaced, Unlawful, Uncorrected, Faulty, Says}
+use Rattle.recovery.specs.Stages.{mode_in, said_layers, said_words, block_words_in}
+use Rattle.recovery.specs.declared.said.Failed.{Failed}
+use Rattle.recovery.specs.FailedMode.{failed_conditions}
+use Rattle.walk.specs.declared.Refusal.{Refusal}
+use Rattle.walk.specs.declared.Refusal.TheVariants.{Side, Length, Module, Unplaced, Mode, Unlawful, Uncorrected, Faulty}
+
+-- what a grid was taken for, whatever its mode words say: its family, L, its position and D
+pub record Layout : Type 0 where
+  pub full : Bool
+  pub layers : ℕ
+  pub position : ℕ
+  pub data_words : ℕ
+
+-- a message of so many bytes in a layout
+pub record Message : Type 0 where
+  pub layout : Layout
+  pub bytes : ℕ
+
+-- where a walk ends
+abbrev pub Outcome : Type 0
+Outcome = Result Message Refusal
+
+abbrev pub says : Layout → ℕ → Outcome
+says l n = Ok (record { layout = l; bytes = n })
 
 -- document 01's number for each outcome; a message may still lack room (21)
+abbrev pub refusal_number : Refusal → ℕ
+refusal_number Side = 11
+refusal_number Length = 12
+refusal_number Module = 13
+refusal_number (Unplaced cause) = 14
+refusal_number Mode = 15
+refusal_number (Unlawful failed) = 16
+refusal_number (Uncorrected e K) = 17
+refusal_number (Faulty cause) = items.number_of cause.fault
+
 abbrev pub number_of : Outcome → ℕ
-number_of (Refused k) = k
-number_of (Unplaced best positions) = 14
-number_of (Unlawful failed) = 16
-number_of (Uncorrected e K) = 17
-number_of (Faulty k bit) = k
-number_of (Says l n) = 0
+number_of (Ok message) = 0
+number_of (Err refusal) = refusal_number refusal
 
 -- an outcome; and where it says a message the words received, in which an unread module counts as 0, a mark for each that has one, the block
 -- found, and the message of its data words
@@ -40,8 +67,8 @@ pub record Walk : Type 0 where
   pub text : List ℕ
 
 -- a refusal has no words beside it
-abbrev pub ended : Outcome → Walk
-ended o = record { outcome = o; received = []; unread = []; found = []; text = [] }
+abbrev pub ended : Refusal → Walk
+ended r = record { outcome = Err r; received = []; unread = []; found = []; text = [] }
 
 -- From the words of a block
 
@@ -67,8 +94,8 @@ module _ (l : Layout) (received unread : List ℕ) where
 
   abbrev pub stream_walk : List ℕ → items.Reading → Walk
   stream_walk found (items.message text) =
-      record { outcome = Says l (length text); received = received; unread = unread; found = found; text = text }
-  stream_walk found (items.refused k bit) = ended (Faulty k bit)
+      record { outcome = says l (length text); received = received; unread = unread; found = found; text = text }
+  stream_walk found (items.refused x bit) = ended (Faulty (record { fault = x; bit = bit }))
 
   -- 17, with e and K
   abbrev pub found_walk : Option (List ℕ) → Walk
@@ -79,10 +106,12 @@ module _ (l : Layout) (received unread : List ℕ) where
   block_walk = found_walk nearest_block
 
   -- 16, with the conditions that fail in a grid of side n
+  abbrev pub lawful_by : Prelude.Option Failed → Walk
+  lawful_by None = block_walk
+  lawful_by (Some failed) = ended (Unlawful failed)
+
   unfoldable pub lawful_walk : ℕ → Walk
-  lawful_walk n =
-      cond (lawful_mode l.full n l.layers l.data_words) block_walk
-      (ended (Unlawful (failed_mode l.full n l.layers l.data_words)))
+  lawful_walk n = lawful_by (failed_conditions l.full n l.layers l.data_words)
 
 -- From a grid
 
@@ -99,12 +128,12 @@ module _ (g : List ℕ) where
 
   -- 15
   abbrev pub mode_walk : Bool → ℕ → ℕ → Option (List ℕ) → Walk
-  mode_walk f n p none = ended (Refused 15)
+  mode_walk f n p none = ended Mode
   mode_walk f n p (some ms) = shape_walk f n p (said_layers f ms) (said_words f ms)
 
   -- 14, with the best match count and the positions that have it
   abbrev pub place_walk : Bool → ℕ → Option ℕ → Walk
-  place_walk f n none = ended (Unplaced (best_matches f n g) (best_positions f n g))
+  place_walk f n none = ended (Unplaced (record { best = best_matches f n g; positions = best_positions f n g }))
   place_walk f n (some p) = mode_walk f n p (mode_in f n p g)
 
   -- the family decides where the orientation modules are
@@ -114,9 +143,9 @@ module _ (g : List ℕ) where
 -- 11 "side is not a shape's", 12 "grid length isn't side²", 13 "a module above 2"
 unfoldable pub walk_of : List ℕ → ℕ → Walk
 walk_of g n =
-    cond (not (is_side n)) (ended (Refused 11))
-    (cond (not (eqb (length g) (n * n))) (ended (Refused 12))
-    (cond (not (lawful_modules g)) (ended (Refused 13)) (grid_walk g n)))
+    cond (not (is_side n)) (ended Side)
+    (cond (not (eqb (length g) (n * n))) (ended Length)
+    (cond (not (lawful_modules g)) (ended Module) (grid_walk g n)))
 
 -- What the walk leaves in its work buffers: its words stand at their fronts. Behind them, and after a refusal, the bytes are free.
 pub record Left (w : Walk) (received unread found : List ℕ) : Type 0 where
@@ -124,5 +153,5 @@ pub record Left (w : Walk) (received unread found : List ℕ) : Type 0 where
   pub unread-left : take (length w.unread) unread ≡ w.unread
   pub found_left : take (length w.found) found ≡ w.found
 
-pub ended-left : (o : Outcome) (received unread found : List ℕ) → Left (ended o) received unread found
-ended-left o received unread found = record { received-left = refl; unread-left = refl; found_left = refl }
+pub ended-left : (r : Refusal) (received unread found : List ℕ) → Left (ended r) received unread found
+ended-left r received unread found = record { received-left = refl; unread-left = refl; found_left = refl }

@@ -7,15 +7,7 @@ pub fn count_marked(words: usize, marks: &[u8]) -> u32
     requires { (words ≤ 65536) × (words ≤ length marks.now) }
     ensures { result ≡ marked_of words marks.now }
 {
-    let mut marked: u32 = 0;
-    let mut w = 0;
-    while w < words {
-        if marks[w] == 1 {
-            marked += 1;
-        }
-        w += 1;
-    }
-    marked
+    marks[..words].iter().filter(|mark| **mark == 1).count() as u32
 }
 
 pub fn count_wrong(words: usize, received: &[u16], marks: &[u8], found: &[u16]) -> u32
@@ -23,14 +15,12 @@ pub fn count_wrong(words: usize, received: &[u16], marks: &[u8], found: &[u16]) 
     ensures { result ≡ wrong_of words received.now marks.now found.now }
 {
     let mut wrong: u32 = 0;
-    let mut w = 0;
-    while w < words {
+    for w in 0..words {
         if marks[w] != 1 {
             if found[w] != received[w] {
                 wrong += 1;
             }
         }
-        w += 1;
     }
     wrong
 }

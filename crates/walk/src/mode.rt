@@ -1,37 +1,39 @@
 // The mode message of an upright grid.
-ghost use Rattle.std.specs.Prelude.{◌≡◌, ◌*◌, ◌≤◌, ◌<◌, length};
-ghost use Rattle.symbol.specs.Shapes.{core};
+ghost use Rattle.std.specs.Prelude.{◌≡◌, ◌*◌, ◌≤◌, length};
 ghost use Rattle.symbol.specs.Places.{mode_run};
 ghost use Rattle.walk.specs.Upright.{said_of, mode_of};
 
 use recovery::{correcting, said};
 use symbol::places;
+use symbol::shapes::Frame;
 
-// L and D, or nothing where the mode words are beyond correction.
+// What a mode message says: L and D.
 #[derive(Clone, Copy)]
-pub enum Said {
-    Words(usize, usize),
-    Nothing,
+pub struct Said {
+    pub layers: usize,
+    pub data_words: usize,
 }
 
 // With room for exactly the mode words.
-fn said_in(mode_words: &mut [u16], full: bool, n: usize, upright: &[u8]) -> Said
-    requires { (2 * core full < n) × (n ≤ 151) × (n * n ≤ length upright.now) × (length mode_words.old ≡ mode_run full) }
-    ensures { result ≡ said_of full (mode_of upright.now full n) }
+fn said_in(mode_words: &mut [u16], frame: Frame, upright: &[u8]) -> Option<Said>
+    requires { (frame.side * frame.side ≤ length upright.now) × (length mode_words.old ≡ mode_run frame.full) }
+    ensures { result ≡ said_of frame.full (mode_of upright.now frame.full frame.side) }
 {
-    if correcting::correct_mode(full, n, upright, mode_words) {
-        let layers = said::said_layers(full, mode_words);
-        let data_words = said::said_words(full, mode_words);
-        return Said::Words(layers, data_words);
+    if correcting::correct_mode(frame, upright, mode_words) {
+        return Some(Said {
+            layers: said::said_layers(frame.full, mode_words),
+            data_words: said::said_words(frame.full, mode_words),
+        });
     }
-    Said::Nothing
+    None
 }
 
-pub fn said_of(full: bool, n: usize, upright: &[u8]) -> Said
-    requires { (2 * core full < n) × (n ≤ 151) × (n * n ≤ length upright.now) }
-    ensures { result ≡ said_of full (mode_of upright.now full n) }
+// Nothing where the mode words are beyond correction.
+pub fn said_of(frame: Frame, upright: &[u8]) -> Option<Said>
+    requires { frame.side * frame.side ≤ length upright.now }
+    ensures { result ≡ said_of frame.full (mode_of upright.now frame.full frame.side) }
 {
     let mut mode_words = [0u16; 10];
-    let run = places::mode_run_of(full);
-    said_in(&mut mode_words[..run], full, n, upright)
+    let run = places::mode_run_of(frame.full);
+    said_in(&mut mode_words[..run], frame, upright)
 }

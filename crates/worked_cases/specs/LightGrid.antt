@@ -18,9 +18,11 @@ use Rattle.symbol.specs.Places.{turned, domino, layer_cell, cell, spread, data_p
 use Rattle.symbol.specs.Positions.{place_in}
 use Rattle.symbol.specs.GridWords.{value, unread, module_at, block_module, block_word}
 use Rattle.sampling.specs.Flat.{flat_marked}
-use Rattle.recovery.specs.Stages.{lawful_mode, block_words_in, block_mark, block_marks_in, block_in}
-use Rattle.walk.specs.declared.Outcome.TheVariants.{Uncorrected, Faulty}
+use Rattle.recovery.specs.Stages.{block_words_in, block_mark, block_marks_in, block_in}
+use Rattle.stream.specs.declared.items.Fault.TheVariants.{FlatWord}
+use Rattle.walk.specs.declared.Refusal.TheVariants.{Uncorrected, Faulty}
 use Rattle.walk.specs.Walk.{ended, found_walk, block_walk, lawful_walk, layout_of, unread_in, shape_walk}
+use Rattle.recovery.specs.FailedMode.{failed_conditions}
 use Rattle.walk.specs.BlockIn.{nearest_in}
 
 abbrev light : List ℕ
@@ -37,7 +39,7 @@ nine-marked = too-many-marks (size_of 6) 8 8 zeros _ (omega arith)
 -- 17, with e 9 and K 8
 pub beyond-correction : shape_walk light false 15 0 1 9 ≡ ended (Uncorrected 9 8)
 unfolding tabulate count flat side square bits word_size words skipped turned domino layer_cell cell spread data_place place_in
-    value unread module_at block_module block_word block_words_in flat_marked unread_in lawful_mode block_walk lawful_walk
+    value unread module_at block_module block_word block_words_in flat_marked unread_in failed_conditions block_walk lawful_walk
 beyond-correction =
     ap (found_walk (layout_of false 1 0 9) (block_words_in false 1 0 light) (unread_in false 1 0 light)) (nearest_in false 1 9 0 light ∙ nine-marked)
 
@@ -53,7 +55,7 @@ three-marked =
     ((near-test (size_of 6) 14 14 zeros _ zeros refl (zero-words 17)).0 tt)
 
 -- 18, of the whole block: bit 0
-pub flat-found : shape_walk light false 15 0 1 3 ≡ ended (Faulty 18 0)
-unfolding side bits word_size words lawful_mode all flat judge block_walk lawful_walk
+pub flat-found : shape_walk light false 15 0 1 3 ≡ ended (Faulty (record { fault = FlatWord; bit = 0 }))
+unfolding side bits word_size words failed_conditions all flat judge block_walk lawful_walk
 flat-found =
     ap (found_walk (layout_of false 1 0 3) (block_words_in false 1 0 light) (unread_in false 1 0 light)) (nearest_in false 1 3 0 light ∙ three-marked)

@@ -1,6 +1,6 @@
 -- Computed examples of how a grid is read (document 01, "How a grid is read", and numbers 11 to 21), on grids of C1, side 15.
 -- Assumes nothing.
-use Rattle.std.specs.Prelude.{◌≡◌, true, false, List, [], ◌∷◌, ◌++◌, map, ℕ, get_or, replicate}
+use Rattle.std.specs.Prelude.{◌≡◌, Err, true, false, List, [], ◌∷◌, ◌++◌, map, ℕ, get_or, replicate}
 use Rattle.std.proofs.Math.Path.{refl}
 use Rattle.list_laws.specs.Filled.{tabulate}
 use Rattle.list_laws.specs.Range.{one, count, all}
@@ -23,9 +23,10 @@ use Rattle.orientation.specs.Masks.{mask_from}
 use Rattle.orientation.specs.Placement.{best_matches, best_positions}
 use Rattle.recovery.specs.Stages.{mode_words_in, mode_marks_in}
 use Rattle.recovery.specs.Stages.{lawful_mode, side_failed, words_failed, failed_mode, block_mark, block_marks_in, unread_words, wrong_words}
-use Rattle.walk.specs.declared.Layout.{Layout}
-use Rattle.walk.specs.declared.Outcome.TheVariants.{Refused, Unplaced, Unlawful, Uncorrected, Faulty, Says}
-use Rattle.walk.specs.Walk.{Walk, number_of, layout_of, grid_walk, walk_of}
+use Rattle.recovery.specs.declared.said.Failed.{Failed}
+use Rattle.stream.specs.declared.items.Fault.TheVariants.{FlatWord, WrongItem, CutShort}
+use Rattle.walk.specs.declared.Refusal.TheVariants.{Side, Length, Module, Unplaced, Mode, Unlawful, Uncorrected, Faulty}
+use Rattle.walk.specs.Walk.{Layout, says, Walk, number_of, layout_of, grid_walk, walk_of}
 use Rattle.decoder.specs.Decode.{refused, answer_of, decode_of}
 
 -- "A data word (never a check word, and never a mode word) of all 0s or all 1s is marked too": of four words, two are data words
@@ -144,21 +145,29 @@ pub zeros : (k : ℕ) (b : List ℕ) → refused k b
 zeros k b = refl
 
 -- what is known of the last of these: six matches, in every position; and no words, since none were read
-pub light-grid : walk_of (replicate 225 0) 15 ≡ record { outcome = Unplaced 6 255; received = []; unread = []; found = []; text = [] }
+pub light-grid : walk_of (replicate 225 0) 15 ≡ record { outcome = Err (Unplaced (record { best = 6; positions = 255 })); received = []; unread = []; found = []; text = [] }
 unfolding all count first_from side is_full layers core turned core_place orientation_cell orientation_place orientation_bits place_in
     has_side is_side looks_full matches single position most mask_from best_matches best_positions lawful_modules grid_walk walk_of
 light-grid = refl
 
--- a number for each outcome, whatever else its stage knew: 11, 12, 13 and 15, and 18, 19 and 20, are k
-pub numbers : (k x y : ℕ) (l : Layout) → map number_of (Refused k ∷ Unplaced x y ∷ Unlawful x ∷ Uncorrected x y ∷ Faulty k x ∷ Says l x ∷ [])
-    ≡ k ∷ 14 ∷ 16 ∷ 17 ∷ k ∷ 0 ∷ []
-numbers k x y l = refl
+-- a number for each outcome, whatever else its stage knew
+pub numbers : (x y : ℕ) (c : Failed) (l : Layout)
+    → map number_of
+    (Err Side ∷ Err Length ∷ Err Module ∷ Err (Unplaced (record { best = x; positions = y })) ∷ Err Mode ∷ Err (Unlawful c)
+    ∷ Err (Uncorrected x y)
+    ∷ Err (Faulty (record { fault = FlatWord; bit = x }))
+    ∷ Err (Faulty (record { fault = WrongItem; bit = x }))
+    ∷ Err (Faulty (record { fault = CutShort; bit = x }))
+    ∷ says l x
+    ∷ [])
+    ≡ 11 ∷ 12 ∷ 13 ∷ 14 ∷ 15 ∷ 16 ∷ 17 ∷ 18 ∷ 19 ∷ 20 ∷ 0 ∷ []
+numbers x y c l = refl
 
 -- 21 "message buffer too short", whatever block was found; with room the message stands before what the buffer held
 module _ (received unread found : List ℕ) where
   abbrev said : Walk
   said =
-      record { outcome = Says (layout_of true 4 6 9) 2; received = received; unread = unread; found = found; text = 65 ∷ 66 ∷ [] }
+      record { outcome = says (layout_of true 4 6 9) 2; received = received; unread = unread; found = found; text = 65 ∷ 66 ∷ [] }
 
   pub no_room : answer_of (7 ∷ []) said ≡ refused 21 (7 ∷ [])
   no_room = refl
@@ -171,7 +180,7 @@ module _ (received unread found : List ℕ) where
 abbrev four : Walk
 four =
     record {
-      outcome = Says (layout_of true 4 6 1) 0;
+      outcome = says (layout_of true 4 6 1) 0;
       received = 1 ∷ 2 ∷ 3 ∷ 4 ∷ [];
       unread = 1 ∷ 0 ∷ 0 ∷ 1 ∷ [];
       found = 5 ∷ 2 ∷ 7 ∷ 4 ∷ [];

@@ -1,7 +1,7 @@
 -- Computed examples of the text of a grid and of light borders (crate grid_text): what each byte is, both sides of each limit, texts that
 -- are grids and texts that are none. The values were reckoned by hand.
 -- Assumes nothing.
-use Rattle.std.specs.Prelude.{◌≡◌, refl, Bool, true, false, List, [], ◌∷◌, map, ℕ, set, replicate}
+use Rattle.std.specs.Prelude.{◌≡◌, refl, Bool, true, false, List, [], ◌∷◌, map, ℕ, Option, Some, None, set, replicate}
 use Rattle.list_laws.specs.Filled.{tabulate}
 use Rattle.list_laws.specs.Range.{all}
 use Rattle.grid_text.specs.declared.kinds.Kind.TheVariants.{Line, Blank, Digit, Unread, Hash, Other}
@@ -18,16 +18,16 @@ unfolding kind_of
 kinds = refl
 
 -- "up to 255": the number 25 and one digit more, 255 modules of a row and one more
-pub most : (number 0 25 (Digit 5) ∷ number 0 25 (Digit 6) ∷ more_modules 0 254 ∷ more_modules 0 255 ∷ [])
-    ≡ Number 0 255 ∷ Bad ∷ Rows 0 255 ∷ Bad ∷ []
+pub most : (number None 25 (Digit 5) ∷ number None 25 (Digit 6) ∷ more_modules None 254 ∷ more_modules None 255 ∷ [])
+    ≡ Number None 255 ∷ Bad ∷ Rows None 255 ∷ Bad ∷ []
 most = refl
 
--- a text and its side in a buffer of nine modules, 0 for a text that is no grid
+-- a text and its side in a buffer of nine modules, if it is a grid
 pub record Sided : Type 0 where
   pub text : List ℕ
-  pub side : ℕ
+  pub side : Option ℕ
 
-abbrev sided : ℕ → List ℕ → Sided
+abbrev sided : Option ℕ → List ℕ → Sided
 sided n l = record { text = l; side = n }
 
 -- the grids are "2", "1\r\n", "0 1\r\n1\t?\r\n", "P1 1 1 1", "P1 2#c\n2\n1011", "\n\n1" and "P1 1 1\n 1". Those that are none have a module
@@ -35,26 +35,26 @@ sided n l = record { text = l; side = n }
 -- letter in the header, a letter alone, a 2 in a bitmap behind its module, and a 3 in rows that have four modules without it
 unfoldable pub texts : List Sided
 texts =
-    sided 1 (50 ∷ [])
-    ∷ sided 1 (49 ∷ 13 ∷ 10 ∷ [])
-    ∷ sided 2 (48 ∷ 32 ∷ 49 ∷ 13 ∷ 10 ∷ 49 ∷ 9 ∷ 63 ∷ 13 ∷ 10 ∷ [])
-    ∷ sided 1 (80 ∷ 49 ∷ 32 ∷ 49 ∷ 32 ∷ 49 ∷ 32 ∷ 49 ∷ [])
-    ∷ sided 2 (80 ∷ 49 ∷ 32 ∷ 50 ∷ 35 ∷ 99 ∷ 10 ∷ 50 ∷ 10 ∷ 49 ∷ 48 ∷ 49 ∷ 49 ∷ [])
-    ∷ sided 1 (10 ∷ 10 ∷ 49 ∷ [])
-    ∷ sided 1 (80 ∷ 49 ∷ 32 ∷ 49 ∷ 32 ∷ 49 ∷ 10 ∷ 32 ∷ 49 ∷ [])
-    ∷ sided 0 (51 ∷ [])
-    ∷ sided 0 (48 ∷ 10 ∷ 48 ∷ 49 ∷ [])
-    ∷ sided 0 (35 ∷ 10 ∷ 49 ∷ [])
-    ∷ sided 0 (80 ∷ 50 ∷ 32 ∷ 49 ∷ 32 ∷ 49 ∷ 10 ∷ 49 ∷ [])
-    ∷ sided 0 (80 ∷ 49 ∷ [])
-    ∷ sided 0 (80 ∷ 49 ∷ 32 ∷ 48 ∷ 32 ∷ 49 ∷ 32 ∷ 49 ∷ 10 ∷ 49 ∷ [])
-    ∷ sided 0 (80 ∷ 49 ∷ 32 ∷ 49 ∷ 32 ∷ 49 ∷ 10 ∷ 63 ∷ [])
-    ∷ sided 0 (80 ∷ 49 ∷ 32 ∷ 49 ∷ 32 ∷ 49 ∷ 10 ∷ 49 ∷ 35 ∷ 10 ∷ 49 ∷ [])
-    ∷ sided 0 (80 ∷ 49 ∷ 32 ∷ 50 ∷ 32 ∷ 50 ∷ 10 ∷ 49 ∷ 48 ∷ 49 ∷ [])
-    ∷ sided 0 (80 ∷ 49 ∷ 32 ∷ 49 ∷ 120 ∷ 49 ∷ 32 ∷ 49 ∷ [])
-    ∷ sided 0 (120 ∷ [])
-    ∷ sided 0 (80 ∷ 49 ∷ 32 ∷ 49 ∷ 32 ∷ 49 ∷ 10 ∷ 49 ∷ 50 ∷ [])
-    ∷ sided 0 (51 ∷ 49 ∷ 10 ∷ 49 ∷ 49 ∷ 10 ∷ 49 ∷ 51 ∷ [])
+    sided (Some 1) (50 ∷ [])
+    ∷ sided (Some 1) (49 ∷ 13 ∷ 10 ∷ [])
+    ∷ sided (Some 2) (48 ∷ 32 ∷ 49 ∷ 13 ∷ 10 ∷ 49 ∷ 9 ∷ 63 ∷ 13 ∷ 10 ∷ [])
+    ∷ sided (Some 1) (80 ∷ 49 ∷ 32 ∷ 49 ∷ 32 ∷ 49 ∷ 32 ∷ 49 ∷ [])
+    ∷ sided (Some 2) (80 ∷ 49 ∷ 32 ∷ 50 ∷ 35 ∷ 99 ∷ 10 ∷ 50 ∷ 10 ∷ 49 ∷ 48 ∷ 49 ∷ 49 ∷ [])
+    ∷ sided (Some 1) (10 ∷ 10 ∷ 49 ∷ [])
+    ∷ sided (Some 1) (80 ∷ 49 ∷ 32 ∷ 49 ∷ 32 ∷ 49 ∷ 10 ∷ 32 ∷ 49 ∷ [])
+    ∷ sided None (51 ∷ [])
+    ∷ sided None (48 ∷ 10 ∷ 48 ∷ 49 ∷ [])
+    ∷ sided None (35 ∷ 10 ∷ 49 ∷ [])
+    ∷ sided None (80 ∷ 50 ∷ 32 ∷ 49 ∷ 32 ∷ 49 ∷ 10 ∷ 49 ∷ [])
+    ∷ sided None (80 ∷ 49 ∷ [])
+    ∷ sided None (80 ∷ 49 ∷ 32 ∷ 48 ∷ 32 ∷ 49 ∷ 32 ∷ 49 ∷ 10 ∷ 49 ∷ [])
+    ∷ sided None (80 ∷ 49 ∷ 32 ∷ 49 ∷ 32 ∷ 49 ∷ 10 ∷ 63 ∷ [])
+    ∷ sided None (80 ∷ 49 ∷ 32 ∷ 49 ∷ 32 ∷ 49 ∷ 10 ∷ 49 ∷ 35 ∷ 10 ∷ 49 ∷ [])
+    ∷ sided None (80 ∷ 49 ∷ 32 ∷ 50 ∷ 32 ∷ 50 ∷ 10 ∷ 49 ∷ 48 ∷ 49 ∷ [])
+    ∷ sided None (80 ∷ 49 ∷ 32 ∷ 49 ∷ 120 ∷ 49 ∷ 32 ∷ 49 ∷ [])
+    ∷ sided None (120 ∷ [])
+    ∷ sided None (80 ∷ 49 ∷ 32 ∷ 49 ∷ 32 ∷ 49 ∷ 10 ∷ 49 ∷ 50 ∷ [])
+    ∷ sided None (51 ∷ 49 ∷ 10 ∷ 49 ∷ 49 ∷ 10 ∷ 49 ∷ 51 ∷ [])
     ∷ []
 
 pub sides-right : map (λ (t : Sided). side_of t.text 9) texts ≡ map (λ (t : Sided). t.side) texts
@@ -88,7 +88,7 @@ unfolding modules_of is_bitmap modules step shown kind_of
 modules-met = refl
 
 -- side² modules and room for them: 9 of 9, 9 of 8, 8 in place of 9
-pub judgements : judged 3 9 9 ∷ judged 3 9 8 ∷ judged 3 8 9 ∷ [] ≡ 3 ∷ 0 ∷ 0 ∷ []
+pub judgements : judged 3 9 9 ∷ judged 3 9 8 ∷ judged 3 8 9 ∷ [] ≡ Some 3 ∷ None ∷ None ∷ []
 unfolding judged
 judgements = refl
 

@@ -9,30 +9,28 @@ use Rattle.check_words.proofs.Remaindering.{adding}
 use Rattle.check_words.proofs.add_multiple.Goals as goal
 
 pub loop-i-init : goal.loop-i-init
-loop-i-init c = (search rules, search rules, filled_none _ _)
+loop-i-init c = (search rules, filled_none _ _)
 
 pub times_power-requires : goal.times_power-requires
 times_power-requires c =
     record {
-      fact_1 = c.requires.tables_1;
-      fact_2 = c.requires.tables_2 c.loop-i.i;
-      fact_3 = c.requires.k_bound_1;
+      word = c.requires.words c.loop-i.i;
+      k_bound = c.requires.k_bound;
     }
 
 pub loop-i-preserved : goal.loop-i-preserved
 loop-i-preserved c =
     let l = c.loop-i in
     let h : l.i < length c.args.tail.now = omega arith in (
-      search rules,
       simp length-set (search rules),
-      filled-step _ l.i c.args.tail.now l.invariant.2
-          (ap₂ ◌⊕◌ (not-yet-filled _ l.i l.i c.args.tail.now l.invariant.2 (le_refl l.i)) c.times_power.ensures) h,
+      filled-step _ l.i c.args.tail.now l.invariant.1
+          (ap₂ ◌⊕◌ (not-yet-filled _ l.i l.i c.args.tail.now l.invariant.1 (le_refl l.i)) c.times_power.ensures) h,
     )
 
 pub returns : goal.returns
 returns c =
     let a = c.args in
     let tail = a.tail.now in
-    let f = adding (size_of a.size) a.g.now a.k tail in
+    let f = adding (size_of a.field.now.size) a.g.now a.k tail in
     let done : c.loop-i.i ≡ length tail = omega arith in
-    c.loop-i.invariant.2 ∙ ap (λ n. filled f n tail) done ∙ filled-all f tail
+    c.loop-i.invariant.1 ∙ ap (λ n. filled f n tail) done ∙ filled-all f tail

@@ -11,23 +11,22 @@ start c = (goal.at.In-loop-i c).Start
 
 turn : (c : In-loop-i)
     → let a = (start c).args in
-    Turn (size_of a.size) a.g.now a.data_words a.block.now c.loop-i.i c.loop-i.block
+    Turn (size_of a.field.now.size) a.g.now a.data_words a.block.now c.loop-i.i c.loop-i.block
 turn c =
     let s = start c in
-    dividing-turn (size_of s.args.size) s.args.g.now s.args.data_words s.args.block.now s.requires.tables_2 s.requires.tables_3
-    s.requires.data_words_in_bounds_1 s.requires.data_words_in_bounds_2 c.loop-i.i (search rules) c.loop-i.invariant.2
+    dividing-turn (size_of s.args.field.now.size) s.args.g.now s.args.data_words s.args.block.now s.requires.g_words s.requires.block_words
+    s.requires.data_words_in_bounds_1 s.requires.data_words_in_bounds_2 c.loop-i.i (search rules) c.loop-i.invariant.1
 
 pub loop-i-init : goal.loop-i-init
 loop-i-init c =
     let a = c.args in
-    (search rules, search rules, dividing-none (size_of a.size) a.g.now a.data_words a.block.now)
+    (search rules, dividing-none (size_of a.field.now.size) a.g.now a.data_words a.block.now)
 
 pub divide_step-requires : goal.divide_step-requires
 divide_step-requires c =
     let t = turn (goal.at.divide_step-requires c).In-loop-i in
     let s = start (goal.at.divide_step-requires c).In-loop-i in record {
-      tables_1 = s.requires.tables_1;
-      tables_2 = s.requires.tables_2;
+      g_words = s.requires.g_words;
       word_1 = t.word;
       word_2 = t.words;
       tail_len_1 = t.size;
@@ -35,12 +34,12 @@ divide_step-requires c =
     }
 
 pub loop-i-preserved : goal.loop-i-preserved
-loop-i-preserved c = (search rules, search rules, (turn (goal.at.loop-i-preserved c).In-loop-i).next c.divide_step.ensures)
+loop-i-preserved c = (search rules, (turn (goal.at.loop-i-preserved c).In-loop-i).next c.divide_step.ensures)
 
 pub returns : goal.returns
 returns c =
     let a = c.args in
     let done : c.loop-i.i ≡ a.data_words = omega arith in
-    c.loop-i.invariant.2
-    ∙ ap (dividing (size_of a.size) a.g.now a.data_words a.block.now) done
-    ∙ dividing-all (size_of a.size) a.g.now a.data_words a.block.now
+    c.loop-i.invariant.1
+    ∙ ap (dividing (size_of a.field.now.size) a.g.now a.data_words a.block.now) done
+    ∙ dividing-all (size_of a.field.now.size) a.g.now a.data_words a.block.now

@@ -13,7 +13,7 @@ abbrev check : Start → ℕ
 check s = length s.args.block.now - s.args.data_words
 
 front_length : (s : Start) → length (take (check s) s.args.g.now) ≡ check s
-front_length s = length-take-le (check s) s.args.g.now (omega (arith, s.requires.tables_2))
+front_length s = length-take-le (check s) s.args.g.now (omega (arith, s.requires.g_in_bounds))
 
 made-length : (c : After-make_generator) → length c.make_generator.new.g ≡ check (start c)
 made-length c = c.make_generator.auto.g ∙ front_length (start c)
@@ -24,8 +24,7 @@ slice_bounds-make_generator-end-2 c = sym (front_length (goal.at.slice_bounds-ma
 pub make_generator-requires : goal.make_generator-requires
 make_generator-requires c =
     let s = (goal.at.make_generator-requires c).Start in record {
-      fact_1 = s.requires.tables_1;
-      fact_2 = omega (arith, front_length s);
+      length_bound = omega (arith, front_length s);
     }
 
 pub slice_bounds-fill_tail-end-2 : goal.slice_bounds-fill_tail-end-2
@@ -37,10 +36,9 @@ pub fill_tail-requires : goal.fill_tail-requires
 fill_tail-requires c =
     let e = (goal.at.fill_tail-requires c).After-make_generator in
     let s = start e in record {
-      tables_1 = s.requires.tables_1;
-      tables_2 = take_at e.make_generator.new.g _ _ (made-length e)
+      is_generator = take_at e.make_generator.new.g _ _ (made-length e)
           ∙ e.make_generator.ensures
-          ∙ ap (generator (size_of s.args.size)) (front_length s);
+          ∙ ap (generator (size_of s.args.field.now.size)) (front_length s);
       data_words_in_bounds_1 = s.requires.data_words_in_bounds_1;
       data_words_in_bounds_2 = s.requires.data_words_in_bounds_2;
     }

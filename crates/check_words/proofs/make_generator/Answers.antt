@@ -6,13 +6,12 @@ use Rattle.check_words.proofs.Generating.{generating, generating-none, generatin
 use Rattle.check_words.proofs.make_generator.Goals as goal
 
 pub loop-k-init : goal.loop-k-init
-loop-k-init c = (search rules, search rules, generating-none _ _)
+loop-k-init c = (search rules, generating-none _ _)
 
 pub add_root-requires : goal.add_root-requires
 add_root-requires c =
     let l = c.loop-k in record {
-      tables_1 = c.requires.fact_1;
-      tables_2 = generating-words (size_of c.args.size) c.args.g.now l.k l.invariant.2;
+      words = generating-words (size_of c.args.field.now.size) c.args.g.now l.k l.invariant.1;
       k_bound_1 = omega arith;
       k_bound_2 = omega arith;
     }
@@ -21,11 +20,10 @@ pub loop-k-preserved : goal.loop-k-preserved
 loop-k-preserved c =
     let l = c.loop-k in (
       search rules,
-      search rules,
-      generating-next (size_of c.args.size) c.args.g.now l.k l.invariant.2 c.add_root.ensures,
+      generating-next (size_of c.args.field.now.size) c.args.g.now l.k l.invariant.1 c.add_root.ensures,
     )
 
 pub returns : goal.returns
 returns c =
     let done : c.loop-k.k ≡ length c.args.g.now = omega arith in
-    c.loop-k.invariant.2 ∙ ap (generating (size_of c.args.size) c.args.g.now) done ∙ generating-all (size_of c.args.size) c.args.g.now
+    c.loop-k.invariant.1 ∙ ap (generating (size_of c.args.field.now.size) c.args.g.now) done ∙ generating-all (size_of c.args.field.now.size) c.args.g.now

@@ -1,12 +1,9 @@
 -- The generator of the first k roots stands in front; the rest is as it was.
 -- Assumes nothing.
-use Rattle.std.proofs.Common.{◌≡◌, ◌-◌, ◌≤◌, length}
+use Rattle.std.proofs.Common.{◌≡◌, length}
 use Rattle.finite_field.specs.Field.{size_of}
 use Rattle.check_words.proofs.Generating.{generating}
 use Rattle.check_words.proofs.make_generator.Given as goal
 
 abbrev pub invariant-loop-k : goal.invariant-loop-k
-invariant-loop-k l = (l.k ≤ length l.initial.g) × (length l.g ≡ length l.initial.g) × (l.g ≡ generating (size_of l.size) l.initial.g l.k)
-
-abbrev pub decreases-loop-k : goal.decreases-loop-k
-decreases-loop-k l = length l.initial.g - l.k
+invariant-loop-k l = (length l.g ≡ length l.initial.g) × (l.g ≡ generating (size_of l.field.size) l.initial.g l.k)

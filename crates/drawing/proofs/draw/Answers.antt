@@ -14,7 +14,7 @@ returns c =
     let fixed = orientation in
     let a = fixed.args in
     block.draw_block.ensures
-    ∙ ap (with_block a.full a.layers a.block.now)
+    ∙ ap (with_block a.shape.full a.shape.layers a.block.now)
     (mode.draw_mode.ensures
-    ∙ ap (with_mode a.full a.layers a.mode_words.now)
-    (orientation.draw_orientation.ensures ∙ ap (with_orientation a.full a.layers) fixed.draw_fixed.ensures))
+    ∙ ap (with_mode a.shape.full a.shape.layers a.mode_words.now)
+    (orientation.draw_orientation.ensures ∙ ap (with_orientation a.shape.full a.shape.layers) fixed.draw_fixed.ensures))

@@ -1,18 +1,17 @@
 -- The colours, the characters, and the colours back.
 -- Assumes nothing.
-use Rattle.std.proofs.Common.{◌+◌, arith}
-use Rattle.picture.specs.Picture.{half_line}
+use Rattle.std.proofs.Common.{ap, ◌∙◌, arith, ◌+◌, ◌++◌, ℕ, length, length-append}
+use Rattle.picture.specs.Picture.{extent, joined, upper, white, reset, half_line}
 use Rattle.picture.specs.PictureLaws.{upper-length}
-use Rattle.list_laws.specs.Putting.{put_then, put-length}
 use Rattle.picture.proofs.half_line.Goals as goal
 
-pub put_bytes-requires : goal.put_bytes-requires
-put_bytes-requires c =
-    let a = c.args in
-    let colours = c.put_bytes-start.ensures in
-    let cells = c.put_upper-end.ensures in
-    omega (arith, colours.end, cells.end, put-length colours, put-length cells, upper-length (a.side + 4))
+pub push_all-requires-2 : goal.push_all-requires-2
+push_all-requires-2 c =
+    omega (arith, ap length c.new-line.ensures, ap length c.push_upper.ensures, length-append {A = ℕ}, upper-length (c.args.side + 4))
 
 pub returns : goal.returns
 unfolding half_line
-returns c = put_then (put_then c.put_bytes-start.ensures c.put_upper-end.ensures) c.put_bytes.ensures
+returns c =
+    c.push_all-2.ensures.put
+    ∙ ap (λ l. l ++ reset)
+    (c.push_upper.ensures ∙ ap (λ l. l ++ joined (λ (_ : ℕ). upper) (extent c.args.side)) (c.push_all.ensures.put ∙ ap (λ l. l ++ white) c.new-line.ensures))

@@ -4,4 +4,4 @@ use Rattle.read_tag.specs.TextLaws.{message-fits}
 use Rattle.read_tag.proofs.read_bytes.Goals as goal
 
 pub say-requires : goal.say-requires
-say-requires g c = omega (arith, message-fits c.args.bytes.now c.args.message.now c.in-Tag.answer c.in-Tag.ensures.value)
+say-requires g c = omega (arith, message-fits c.args.bytes.now c.args.message.now c.in-Some.answer c.in-Some.ensures.value)

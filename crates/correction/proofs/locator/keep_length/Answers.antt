@@ -13,27 +13,25 @@ start c = (goal.at.At-loop-j c).Start
 
 -- the coefficient at j is not changed yet
 unchanged : (c : At-loop-j) → get_or c.loop-j.p c.loop-j.j 0 ≡ get_or (start c).args.p.now c.loop-j.j 0
-unchanged c = ap (λ l. get_or l c.loop-j.j 0) c.loop-j.invariant.1.1 ∙ get_or-unfilled _ 0 c.loop-j.j _ _ (le_refl _)
+unchanged c = ap (λ l. get_or l c.loop-j.j 0) c.loop-j.invariant.1 ∙ get_or-unfilled _ 0 c.loop-j.j _ _ (le_refl _)
 
 pub loop-j-init : goal.loop-j-init
-loop-j-init c = (search rules, (search rules, filled_none _ _))
+loop-j-init c = (search rules, filled_none _ _)
 
 pub product-kept-requires : goal.product-kept-requires
 product-kept-requires c =
     let l = (goal.at.product-kept-requires c).At-loop-j in
     let pre = (start l).requires in record {
-      fact_1 = pre.tables_1;
-      fact_2 = pre.tables_2;
-      fact_3 = subst (Word (size_of (start l).args.size)) (sym (unchanged l)) (pre.words_1 l.loop-j.j);
+      a_word = pre.b_word;
+      b_word = subst (Word (size_of (start l).args.field.now.size)) (sym (unchanged l)) (pre.words_1 l.loop-j.j);
     }
 
 pub product-requires : goal.product-requires
 product-requires c =
     let l = (goal.at.product-requires c).At-loop-j in
     let s = start l in record {
-      fact_1 = s.requires.tables_1;
-      fact_2 = s.requires.tables_3;
-      fact_3 = s.requires.words_2 (l.loop-j.j - s.args.shift);
+      a_word = s.requires.d_word;
+      b_word = s.requires.words_2 (l.loop-j.j - s.args.shift);
     }
 
 pub loop-j-preserved : goal.loop-j-preserved
@@ -41,7 +39,7 @@ loop-j-preserved c =
     let l = (goal.at.loop-j-preserved c).At-loop-j in
     let j = l.loop-j.j in
     let s = start l in
-    let size = size_of s.args.size in
+    let size = size_of s.args.field.now.size in
     let p = s.args.p.now in
     let q = s.args.q.now in
     let pre = s.requires in
@@ -52,17 +50,17 @@ loop-j-preserved c =
     let e : c.if-shift-j.p ≡ filled value (j + 1) p
     = elim c.if-shift-j.branch [
       | then-shift-j w ↦ w.p-is
-          ∙ filled-step value j p l.loop-j.invariant.1.1
+          ∙ filled-step value j p l.loop-j.invariant.1
           (ap₂ ◌⊕◌ first w.product.ensures
-          ∙ both-terms size p q pre.tables_2 pre.tables_3 pre.words_1 pre.words_2 s.args.shift j w.if-shift-j.true) within
+          ∙ both-terms size p q pre.b_word pre.d_word pre.words_1 pre.words_2 s.args.shift j w.if-shift-j.true) within
       | else-shift-j w ↦ w.p-is
-          ∙ filled-step value j p l.loop-j.invariant.1.1
-          (first ∙ first-term size p q pre.tables_2 pre.tables_3 pre.words_1 pre.words_2 s.args.shift j w.if-shift-j.false) within
+          ∙ filled-step value j p l.loop-j.invariant.1
+          (first ∙ first-term size p q pre.b_word pre.d_word pre.words_1 pre.words_2 s.args.shift j w.if-shift-j.false) within
     ] in
-    (search rules, (ap length e ∙ length-filled value (j + 1) p (omega arith), e))
+    (ap length e ∙ length-filled value (j + 1) p (omega arith), e)
 
 pub returns : goal.returns
 returns c =
     let l = (goal.at.returns c).At-loop-j in
     let s = start l in
-    kept (size_of s.args.size) s.args.p.now s.args.q.now s.requires.words_1 (omega arith) l.loop-j.invariant.1.1
+    kept (size_of s.args.field.now.size) s.args.p.now s.args.q.now s.requires.words_1 (omega arith) l.loop-j.invariant.1

@@ -10,16 +10,15 @@ loop-state-init c = (
   refl,
   (
     refl,
-    started (size_of c.args.size) c.args.p.now c.args.q.now (omega arith) c.requires.t_in_bounds_3 c.requires.t_in_bounds_4,
+    started (size_of c.args.field.now.size) c.args.p.now c.args.q.now (omega arith) c.requires.t_in_bounds_3 c.requires.t_in_bounds_4,
   ),
 )
 
 pub step-state-requires : goal.step-state-requires
 step-state-requires c =
     let l = c.loop-state in record {
-      tables_1 = c.requires.tables_1;
-      tables_2 = c.requires.tables_2;
-      tables_3 = c.requires.tables_3;
+      words = c.requires.words;
+      u_in_bounds = c.requires.u_in_bounds;
       t_in_bounds_1 = omega (arith, l.invariant.0 ∙ length-set c.args.p.now 0 1);
       t_in_bounds_2 = omega arith;
       t_in_bounds_3 = omega arith;
@@ -35,6 +34,6 @@ loop-state-preserved c = (search rules, (search rules, c.step-state.ensures.loca
 pub returns : goal.returns
 returns c =
     let all = c.loop-state.invariant.1.1 in record {
-      fact_1 = finished (size_of c.args.size) all (omega arith);
-      fact_2 = all.q-words;
+      located = finished (size_of c.args.field.now.size) all (omega arith);
+      words = all.q-words;
     }

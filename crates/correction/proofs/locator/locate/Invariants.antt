@@ -8,7 +8,7 @@ use Rattle.correction.proofs.locator.locate.Given as goal
 abbrev pub invariant-loop-state : goal.invariant-loop-state
 invariant-loop-state l =
     (length l.p ≡ length l.initial.p)
-    × ((length l.q ≡ length l.initial.q) × steps.Locating (size_of l.size) l.t l.u l.p l.q l.state.length l.state.place l.state.scale)
+    × ((length l.q ≡ length l.initial.q) × steps.Locating (size_of l.field.size) l.t l.u l.p l.q l.state.length l.state.place l.state.scale)
 
 abbrev pub decreases-loop-state : goal.decreases-loop-state
 decreases-loop-state l = l.t + l.t - (l.state.length + l.state.place)

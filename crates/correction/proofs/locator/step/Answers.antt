@@ -9,9 +9,8 @@ pub dot-d-requires : goal.dot-d-requires
 dot-d-requires c =
     let pre = c.requires in
     let v = pre.locating in record {
-      tables_1 = pre.tables_1;
-      tables_2 = v.p-words;
-      tables_3 = pre.tables_2;
+      p_words = v.p-words;
+      u_words = pre.words;
       count_in_bounds_1 = omega (arith, v.locating.L-le);
       count_in_bounds_2 = omega (arith, v.locating.L-le);
     }
@@ -19,16 +18,15 @@ dot-d-requires c =
 pub returns-then-d-eq0 : goal.returns-then-d-eq0
 returns-then-d-eq0 c =
     record {
-      locating_2 = turn-annihilates (size_of c.args.size) c.requires.locating c.dot-d.ensures c.if-d-eq0.true;
+      locating_2 = turn-annihilates (size_of c.args.field.now.size) c.requires.locating c.dot-d.ensures c.if-d-eq0.true;
       place_value = omega arith;
     }
 
 pub keep_length-requires : goal.keep_length-requires
 keep_length-requires c =
     let v = c.requires.locating in record {
-      tables_1 = c.requires.tables_1;
-      tables_2 = v.scale-word;
-      tables_3 = discrepancy-word (size_of c.args.size) v c.dot-d.ensures;
+      b_word = v.scale-word;
+      d_word = discrepancy-word (size_of c.args.field.now.size) v c.dot-d.ensures;
       words_1 = v.p-words;
       words_2 = v.q-words;
       words_3 = omega arith;
@@ -38,7 +36,7 @@ keep_length-requires c =
 pub returns-then-place-length : goal.returns-then-place-length
 returns-then-place-length c =
     record {
-      locating_2 = turn-kept (size_of c.args.size) c.requires.locating c.dot-d.ensures
+      locating_2 = turn-kept (size_of c.args.field.now.size) c.requires.locating c.dot-d.ensures
           _ (omega arith) c.keep_length.ensures;
       place_value = omega arith;
     }
@@ -46,10 +44,9 @@ returns-then-place-length c =
 pub lengthen-requires : goal.lengthen-requires
 lengthen-requires c =
     let v = c.requires.locating in record {
-      tables_1 = c.requires.tables_1;
-      tables_2 = v.scale-word;
-      tables_3 = discrepancy-word (size_of c.args.size) v c.dot-d.ensures;
-      tables_4 = omega arith;
+      b_word = v.scale-word;
+      d_word = discrepancy-word (size_of c.args.field.now.size) v c.dot-d.ensures;
+      shifted = omega arith;
       words_1 = v.p-words;
       words_2 = v.q-words;
       words_3 = omega arith;
@@ -59,7 +56,7 @@ lengthen-requires c =
 pub returns : goal.returns
 returns c =
     record {
-      locating_2 = turn-lengthened (size_of c.args.size) c.requires.locating
+      locating_2 = turn-lengthened (size_of c.args.field.now.size) c.requires.locating
           c.dot-d.ensures
           _ (omega arith) c.requires.t_in_bounds_3 c.if-d-eq0.false c.lengthen.ensures;
       place_value = omega arith;

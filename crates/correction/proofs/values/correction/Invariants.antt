@@ -6,8 +6,4 @@ use Rattle.correction.proofs.values.correction.Given as goal
 
 abbrev pub invariant-loop-j : goal.invariant-loop-j
 invariant-loop-j l =
-    Dividing (size_of l.size) l.g l.syndromes l.m l.k l.j l.quotient l.numerator l.slope
-
-abbrev pub decreases-loop-j : goal.decreases-loop-j
-decreases-loop-j l =
-    l.j
+    Dividing (size_of l.field.size) l.g l.syndromes l.m l.k l.j l.quotient l.numerator l.slope

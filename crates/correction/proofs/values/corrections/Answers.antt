@@ -9,14 +9,13 @@ use Rattle.correction.proofs.values.corrections.Goals.{else-places-i-eq1, then-p
 pub loop-i-init : goal.loop-i-init
 loop-i-init c =
     let a = c.args in
-    (search rules, correcting-none (size_of a.size) a.n a.m a.g.now a.syndromes.now a.places.now)
+    correcting-none (size_of a.field.now.size) a.n a.m a.g.now a.syndromes.now a.places.now
 
 pub correction-requires : goal.correction-requires
 correction-requires c =
     record {
-      tables_1 = c.requires.tables_1;
-      tables_2 = c.requires.tables_2;
-      tables_3 = c.requires.tables_3;
+      g_words = c.requires.g_words;
+      syndrome_words = c.requires.syndrome_words;
       m_in_bounds_1 = search rules;
       m_in_bounds_2 = search rules;
       m_in_bounds_3 = omega (arith, c.requires.m_in_bounds_4);
@@ -26,22 +25,20 @@ pub loop-i-preserved : goal.loop-i-preserved
 loop-i-preserved c =
     let a = c.args in
     let l = c.loop-i in
-    let size = size_of a.size in
+    let size = size_of a.field.now.size in
     elim c.if-places-i-eq1.branch [
       | then-places-i-eq1 w ↦ (
-        search rules,
-        rw w.places-is (correcting-take size a.n a.m a.g.now a.syndromes.now a.places.now l.invariant.1 w.if-places-i-eq1.true (search rules) w.correction.ensures),
-      )
+          rw w.places-is (correcting-take size a.n a.m a.g.now a.syndromes.now a.places.now l.invariant w.if-places-i-eq1.true (search rules) w.correction.ensures)
+          )
       | else-places-i-eq1 w ↦ (
-        search rules,
-        rw w.places-is
-            (correcting-skip size a.n a.m a.g.now a.syndromes.now a.places.now l.invariant.1
-            (c.requires.zero_from_2 l.i (search rules)) w.if-places-i-eq1.false),
-      )
+          rw w.places-is
+          (correcting-skip size a.n a.m a.g.now a.syndromes.now a.places.now l.invariant
+          (c.requires.zero_from_2 l.i (search rules)) w.if-places-i-eq1.false)
+          )
     ]
 
 pub returns : goal.returns
 returns c =
     let a = c.args in
-    correcting-all (size_of a.size) a.n a.m a.g.now a.syndromes.now a.places.now c.loop-i.invariant.1 (search rules)
+    correcting-all (size_of a.field.now.size) a.n a.m a.g.now a.syndromes.now a.places.now c.loop-i.invariant (search rules)
     c.requires.zero_from_1

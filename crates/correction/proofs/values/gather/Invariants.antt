@@ -1,16 +1,12 @@
 -- The loop is Gathering's.
 -- Assumes nothing.
-use Rattle.std.proofs.Common.{◌≡◌, ◌-◌, ◌≤◌, length}
+use Rattle.std.proofs.Common.{◌≡◌, length}
 use Rattle.finite_field.specs.Field.{size_of}
 use Rattle.correction.proofs.Gathering.{Gathering}
 use Rattle.correction.proofs.values.gather.Given as goal
 
 abbrev pub invariant-loop-i : goal.invariant-loop-i
 invariant-loop-i l =
-    (l.i ≤ length l.marks)
-    × (length l.places ≡ length l.initial.places)
+    (length l.places ≡ length l.initial.places)
     × (length l.g ≡ length l.initial.g)
-    × Gathering (size_of l.size) l.degree l.p l.marks l.i l.m l.places l.g
-
-abbrev pub decreases-loop-i : goal.decreases-loop-i
-decreases-loop-i l = length l.marks - l.i
+    × Gathering (size_of l.field.size) l.degree l.p l.marks l.i l.m l.places l.g

@@ -12,7 +12,7 @@ use Rattle.correction.proofs.values.is_taken.Goals as goal
 pub returns-then-marks-i-eq1 : goal.returns-then-marks-i-eq1
 returns-then-marks-i-eq1 c =
     let a = c.args in
-    let size = size_of a.size in
+    let size = size_of a.field.now.size in
     sym
     (ap (λ (t : Bool). t || is_zero (word_field size) (eval (word_field size) (suc a.degree) (entry size a.p.now) (place size (length a.marks.now) a.i)))
     (eq-eqb (get_or a.marks.now a.i 0) 1 c.if-marks-i-eq1.true))
@@ -20,7 +20,7 @@ returns-then-marks-i-eq1 c =
 pub returns : goal.returns
 returns c =
     let a = c.args in
-    let size = size_of a.size in
+    let size = size_of a.field.now.size in
     let P = entry size a.p.now in
     let n = length a.marks.now in
     let k = n - 1 - a.i in

@@ -1,6 +1,6 @@
 -- The first rows stand at their places.
 -- Assumes nothing.
-use Rattle.std.proofs.Common.{◌≡◌, ◌*◌, ◌-◌, ◌≤◌, length}
+use Rattle.std.proofs.Common.{◌≡◌, ◌*◌, length}
 use Rattle.list_laws.specs.Writes.{writes}
 use Rattle.symbol.specs.Shapes.{side}
 use Rattle.symbol.specs.Places.{fixed_place}
@@ -8,7 +8,4 @@ use Rattle.drawing.proofs.fixed.draw_fixed.Given as goal
 
 abbrev pub invariant-loop-row : goal.invariant-loop-row
 invariant-loop-row l =
-    (l.row ≤ l.n) × (length l.grid ≡ length l.initial.grid) × (l.grid ≡ writes l.initial.grid (λ k. k) (fixed_place l.full l.layers) (l.row * side l.full l.layers))
-
-abbrev pub decreases-loop-row : goal.decreases-loop-row
-decreases-loop-row l = l.n - l.row
+    (length l.grid ≡ length l.initial.grid) × (l.grid ≡ writes l.initial.grid (λ k. k) (fixed_place l.shape.full l.shape.layers) (l.row * side l.shape.full l.shape.layers))

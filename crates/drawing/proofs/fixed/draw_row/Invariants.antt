@@ -1,6 +1,6 @@
 -- The first c modules of the row stand at their places.
 -- Assumes nothing.
-use Rattle.std.proofs.Common.{◌≡◌, ◌+◌, ◌*◌, ◌-◌, ◌≤◌, length}
+use Rattle.std.proofs.Common.{◌≡◌, ◌+◌, ◌*◌, length}
 use Rattle.list_laws.specs.Writes.{writes}
 use Rattle.symbol.specs.Shapes.{side}
 use Rattle.symbol.specs.Places.{fixed_place}
@@ -8,8 +8,5 @@ use Rattle.drawing.proofs.fixed.draw_row.Given as goal
 
 abbrev pub invariant-loop-c : goal.invariant-loop-c
 invariant-loop-c l =
-    (l.c ≤ l.n) × (length l.grid ≡ length l.initial.grid)
-    × (l.grid ≡ writes l.initial.grid (λ c. l.row * side l.full l.layers + c) (λ c. fixed_place l.full l.layers (l.row * side l.full l.layers + c)) l.c)
-
-abbrev pub decreases-loop-c : goal.decreases-loop-c
-decreases-loop-c l = l.n - l.c
+    (length l.grid ≡ length l.initial.grid)
+    × (l.grid ≡ writes l.initial.grid (λ c. l.row * side l.shape.full l.shape.layers + c) (λ c. fixed_place l.shape.full l.shape.layers (l.row * side l.shape.full l.shape.layers + c)) l.c)

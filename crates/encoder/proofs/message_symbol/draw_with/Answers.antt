@@ -10,6 +10,6 @@ pub returns : goal.returns
 unfolding drawn_message
 returns c =
     c.draw.ensures
-    ∙ ap₂ (λ ms ws. drawn c.args.full c.args.layers ms ws c.args.grid.now)
-    (c.fill_mode_words.ensures ∙ ap (mode_codewords c.args.full c.args.layers) c.requires.fitting_1.count)
+    ∙ ap₂ (λ ms ws. drawn c.args.shape.full c.args.shape.layers ms ws c.args.grid.now)
+    (c.fill_mode_words.ensures ∙ ap (mode_codewords c.args.shape.full c.args.shape.layers) c.requires.fitting_1.count)
     c.fill_block.ensures

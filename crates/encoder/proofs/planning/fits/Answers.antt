@@ -2,15 +2,17 @@
 -- Assumes nothing.
 use Rattle.std.proofs.Common.{sym, ap, ◌*◌, ◌≤◌, arith}
 use Rattle.symbol.specs.Shapes.{most_words}
+use Rattle.symbol.specs.DataPlaces.{most-layers}
 use Rattle.encoder.specs.Plan.{least_check}
 use Rattle.encoder.specs.PlanLaws.{words-most, check-most, too_few, enough}
 use Rattle.encoder.proofs.planning.fits.Goals as goal
-use Rattle.encoder.proofs.planning.fits.Goals.{After-words_of-n}
+use Rattle.encoder.proofs.planning.fits.Goals.{After-words-n}
 
-small : (c : After-words_of-n) → c.args.percent * c.words_of-n.result ≤ 316160
+small : (c : After-words-n) → c.args.percent * c.words-n.result ≤ 316160
 small c =
-    check-most c.args.percent c.words_of-n.result c.requires.0
-    (omega (arith, c.words_of-n.ensures, words-most c.args.full c.args.layers c.requires.1))
+    let s = c.args.shape in
+    check-most c.args.percent c.words-n.result c.requires
+    (omega (arith, c.words-n.ensures, words-most s.full s.layers (most-layers s.full s.layers s.shaped)))
 
 pub overflow_mul-check : goal.overflow_mul-check
 overflow_mul-check c = omega (arith, small c)
@@ -24,25 +26,21 @@ overflow_add-check-2 c = omega (arith, small c)
 pub returns-then-n-data_words : goal.returns-then-n-data_words
 unfolding least_check
 returns-then-n-data_words c =
-    let a = c.args in
-    too_few a.percent a.full a.layers a.data_words c.words_of-n.ensures (omega arith)
+    let s = c.args.shape in too_few c.args.percent s.full s.layers c.args.data_words c.words-n.ensures (omega arith)
 
 pub returns-then-n-data_words-2 : goal.returns-then-n-data_words-2
 unfolding least_check
 returns-then-n-data_words-2 c =
-    let a = c.args in
-    too_few a.percent a.full a.layers a.data_words c.words_of-n.ensures (omega arith)
+    let s = c.args.shape in too_few c.args.percent s.full s.layers c.args.data_words c.words-n.ensures (omega arith)
 
-pub returns-then-full : goal.returns-then-full
+pub returns-then-shape : goal.returns-then-shape
 unfolding least_check most_words
-returns-then-full c =
-    let a = c.args in
-    enough a.percent a.full a.layers a.data_words c.words_of-n.ensures 2048
-    (sym (ap most_words c.if-full.true)) (omega arith)
+returns-then-shape c =
+    let s = c.args.shape in
+    enough c.args.percent s.full s.layers c.args.data_words c.words-n.ensures 2048 (sym (ap most_words c.if-shape.true)) (omega arith)
 
 pub returns : goal.returns
 unfolding least_check most_words
 returns c =
-    let a = c.args in
-    enough a.percent a.full a.layers a.data_words c.words_of-n.ensures 64
-    (sym (ap most_words c.if-full.false)) (omega arith)
+    let s = c.args.shape in
+    enough c.args.percent s.full s.layers c.args.data_words c.words-n.ensures 64 (sym (ap most_words c.if-shape.false)) (omega arith)

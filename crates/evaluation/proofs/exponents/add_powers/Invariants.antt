@@ -1,14 +1,9 @@
 -- The words before j have their power; e is the exponent of the next.
 -- Assumes nothing.
-use Rattle.std.proofs.Common.{◌-◌, ◌≤◌}
 use Rattle.finite_field.specs.Field.{size_of}
 use Rattle.evaluation.proofs.Adding.{AddingPowers}
 use Rattle.evaluation.proofs.exponents.add_powers.Given as goal
 
 abbrev pub invariant-loop-j : goal.invariant-loop-j
 invariant-loop-j l =
-    (l.j ≤ l.count) × AddingPowers (size_of l.size) l.start l.k l.initial.s l.s l.e l.j
-
-abbrev pub decreases-loop-j : goal.decreases-loop-j
-decreases-loop-j l =
-    l.count - l.j
+    AddingPowers (size_of l.field.size) l.start l.k l.initial.s l.s l.e l.j

@@ -1,6 +1,5 @@
 -- The words before r are added to the class.
 -- Assumes nothing.
-use Rattle.std.proofs.Common.{◌-◌, ◌≤◌}
 use Rattle.finite_field.specs.Field.{size_of}
 use Rattle.evaluation.specs.Evaluation.{Placed}
 use Rattle.evaluation.proofs.Folding.{adding}
@@ -8,8 +7,4 @@ use Rattle.evaluation.proofs.folds.add_chunk.Given as goal
 
 abbrev pub invariant-loop-r : goal.invariant-loop-r
 invariant-loop-r l =
-    (l.r ≤ l.count) × Placed (adding (size_of l.size) l.e l.from l.at l.initial.to l.into) l.into l.r l.initial.to l.to
-
-abbrev pub decreases-loop-r : goal.decreases-loop-r
-decreases-loop-r l =
-    l.count - l.r
+    Placed (adding (size_of l.field.size) l.e l.from l.at l.initial.to l.into) l.into l.r l.initial.to l.to

@@ -9,48 +9,46 @@ use Rattle.evaluation.proofs.folds.add_row.Goals as goal
 
 pub loop-j-init : goal.loop-j-init
 loop-j-init c =
-    (search rules, sym (ap (λ n. n % c.args.m) (add-zero c.args.points.first) ∙ mod-eq_of_lt (let h : c.args.points.first < c.args.m = omega (arith, c.requires.tables_2.first-le) in h)), search rules, filled_none _ _)
+    (sym (ap (λ n. n % c.args.m) (add-zero c.args.first) ∙ mod-eq_of_lt (let h : c.args.first < c.args.m = omega (arith, c.requires.asked.first-le) in h)), search rules, filled_none _ _)
 
 pub times_power-requires : goal.times_power-requires
 times_power-requires c =
     let l = c.loop-j in record {
-      fact_1 = c.requires.tables_1;
-      fact_2 = rw (not-yet-filled _ l.j l.j c.args.out.now l.invariant.3 (le_refl l.j)) (c.requires.tables_2.words l.j);
-      fact_3 = omega (arith, c.requires.tables_2.last-le);
+      word = rw (not-yet-filled _ l.j l.j c.args.out.now l.invariant.2 (le_refl l.j)) (c.requires.asked.words l.j);
+      k_bound = omega (arith, c.requires.asked.last-le);
     }
 
 pub overflow_mul-out : goal.overflow_mul-out
 overflow_mul-out c =
-    omega (arith, at-class _ c.args.m c.args.stride c.loop-j.invariant.1 (omega arith) c.requires.lt_m_2)
+    omega (arith, at-class _ c.args.m c.args.stride c.loop-j.invariant.0 (omega arith) c.requires.lt_m_2)
 
 pub overflow_add-out : goal.overflow_add-out
 overflow_add-out c =
-    omega (arith, at-class _ c.args.m c.args.stride c.loop-j.invariant.1 (omega arith) c.requires.lt_m_2)
+    omega (arith, at-class _ c.args.m c.args.stride c.loop-j.invariant.0 (omega arith) c.requires.lt_m_2)
 
 pub offset_bounds-from-class : goal.offset_bounds-from-class
 offset_bounds-from-class c =
-    omega (arith, at-class _ c.args.m c.args.stride c.loop-j.invariant.1 (omega arith) c.requires.lt_m_2)
+    omega (arith, at-class _ c.args.m c.args.stride c.loop-j.invariant.0 (omega arith) c.requires.lt_m_2)
 
 pub bounds-from-class : goal.bounds-from-class
 bounds-from-class c =
-    omega (arith, at-class _ c.args.m c.args.stride c.loop-j.invariant.1 (omega arith) c.requires.lt_m_2)
+    omega (arith, at-class _ c.args.m c.args.stride c.loop-j.invariant.0 (omega arith) c.requires.lt_m_2)
 
 pub next_class-class-requires : goal.next_class-class-requires
-next_class-class-requires c = class-lt _ (omega arith) c.loop-j.invariant.1
+next_class-class-requires c = class-lt _ (omega arith) c.loop-j.invariant.0
 
 pub loop-j-preserved : goal.loop-j-preserved
 loop-j-preserved c =
     let l = c.loop-j in
     let h : l.j < length c.args.out.now = omega arith in
-    let further : c.args.points.first + l.j + 1 ≡ c.args.points.first + (l.j + 1) = omega arith in (
-      search rules,
-      class-next c.args.m (c.args.points.first + l.j) l.invariant.1 c.next_class-class.ensures ∙ ap (λ n. n % c.args.m) further,
+    let further : c.args.first + l.j + 1 ≡ c.args.first + (l.j + 1) = omega arith in (
+      class-next c.args.m (c.args.first + l.j) l.invariant.0 c.next_class-class.ensures ∙ ap (λ n. n % c.args.m) further,
       simp length-set (search rules),
-      rowing-next (size_of c.args.size) c.args.points.first c.args.m c.args.stride c.args.r l.j c.args.from.now c.args.out.now l.invariant.3 l.invariant.1 c.times_power.ensures h,
+      rowing-next (size_of c.args.field.now.size) c.args.first c.args.m c.args.stride c.args.r l.j c.args.from.now c.args.out.now l.invariant.2 l.invariant.0 c.times_power.ensures h,
     )
 
 pub returns : goal.returns
 returns c =
     let l = c.loop-j in
-    let all : l.j ≡ c.args.points.count = omega arith in
-    rw all at l.invariant.3
+    let all : l.j ≡ (length c.args.out.now) = omega arith in
+    rw all at l.invariant.2

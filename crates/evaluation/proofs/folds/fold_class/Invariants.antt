@@ -6,8 +6,4 @@ use Rattle.evaluation.proofs.folds.fold_class.Given as goal
 
 abbrev pub invariant-loop-k : goal.invariant-loop-k
 invariant-loop-k l =
-    FoldingClass (size_of l.size) l.part l.chunks l.from l.at l.into l.initial.to l.to l.k
-
-abbrev pub decreases-loop-k : goal.decreases-loop-k
-decreases-loop-k l =
-    l.k
+    FoldingClass (size_of l.field.size) l.part l.chunks l.from l.at l.into l.initial.to l.to l.k

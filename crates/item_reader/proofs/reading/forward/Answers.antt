@@ -1,6 +1,6 @@
 -- A word that is passed whole takes its stream bits from the bits to go.
 -- Assumes nothing.
-use Rattle.std.proofs.Common.{rules, sym, ◌∙◌, ◌≤◌, arith, length, get_or}
+use Rattle.std.proofs.Common.{rules, sym, ◌∙◌, arith, length, get_or}
 use Rattle.item_reader.specs.Places.{rest_end, word-length-most}
 use Rattle.item_reader.proofs.WordParts.{rest-on, rest-past}
 use Rattle.item_reader.proofs.reading.forward.Goals as goal
@@ -25,8 +25,7 @@ pub returns : goal.returns
 returns c =
     let a = c.args in
     let z = c.loop-word in
-    let far : length a.words.now ≤ z.word = omega arith in
-    let gone = rest_end a.h a.words.now z.word in record {
-      bit_value = gone 0 far ∙ sym (gone z.bit far) ∙ z.invariant.0 ∙ rest-on a.h a.words.now a.place.word a.place.bit a.n;
+    let gone = rest_end a.h a.words.now in record {
+      bit_value = gone (length a.words.now) 0 (omega arith) ∙ sym (gone z.word z.bit (omega arith)) ∙ z.invariant.0 ∙ rest-on a.h a.words.now a.place.word a.place.bit a.n;
       bit_bound = search rules;
     }

@@ -1,39 +1,25 @@
--- The words from the i-th on are counted, from the last to the first.
+-- The words' lengths are added up.
 -- Assumes nothing.
-use Rattle.std.proofs.Common.{rules, ◌≡◌, sym, ap, ◌∙◌, ◌+◌, ◌-◌, le_refl, arith, length, get_or, drop, drop_of_length-le}
-use Rattle.stream.specs.Stuffing.{unstuff_from}
-use Rattle.item_reader.specs.Places.{length_at, word-length-most}
+use Rattle.std.proofs.Common.{rules, tests, ◌∙◌, arith}
+use Rattle.std.proofs.lemmas.Iterator.{YieldsList-from_slice, YieldsList-from_map}
+use Rattle.std.proofs.lemmas.Iterator.Consumers.{YieldsList-at, sum_by_from_yields_List, fits_by_from_yields_list}
+use Rattle.item_reader.specs.Places.{word_length}
+use Rattle.item_reader.proofs.WordParts.{sum-is_length, sum-most}
 use Rattle.item_reader.proofs.reading.stream_length.Goals as goal
 
-pub loop-i-init : goal.loop-i-init
-unfolding unstuff_from
-loop-i-init c =
+pub sum-requires-clause-fits : goal.sum-requires-clause-fits
+sum-requires-clause-fits c =
     let a = c.args in
-    (search rules, sym (ap (λ l. length (unstuff_from a.h l)) (drop_of_length-le a.words.now (le_refl (length a.words.now)))), search rules)
-
-pub overflow_add-n : goal.overflow_add-n
-overflow_add-n c =
-    let a = c.args in
-    let z = c.loop-i in
-    omega (arith, c.word_length-n.ensures, word-length-most a.h (get_or a.words.now (z.i - 1) 0))
-
-pub loop-i-preserved : goal.loop-i-preserved
-loop-i-preserved c =
-    let a = c.args in
-    let z = c.loop-i in
-    let i = z.i - 1 in
-    let same : i + 1 ≡ z.i = omega arith in
-    let later = ap (λ i. length (unstuff_from a.h (drop i a.words.now))) same in (
-      search rules,
-      omega (arith, c.word_length-n.ensures, z.invariant.1, later, length_at a.h a.words.now i (omega arith)),
-      omega (arith, c.word_length-n.ensures, word-length-most a.h (get_or a.words.now i 0)),
-    )
+    fits_by_from_yields_list (word_length a.h) a.words.now c.map.result _
+    (YieldsList-from_map _ (word_length a.h) (YieldsList-at c.map.ensures.source (YieldsList-from_slice a.words.now c.iter.ensures.rest)) c.map.ensures.closure
+    (λ x r q k. search (rules, tests)))
+    (omega (arith, sum-most a.h c.requires.fact_1 a.words.now))
 
 pub returns : goal.returns
 returns c =
     let a = c.args in
-    let z = c.loop-i in
-    let done : z.i ≡ 0 = omega arith in record {
-      value = z.invariant.1 ∙ ap (λ i. length (unstuff_from a.h (drop i a.words.now))) done;
-      upper_bound = omega arith;
-    }
+    let total =
+    sum_by_from_yields_List (word_length a.h) a.words.now c.map.result _ c.sum.ensures.ran
+    (YieldsList-from_map _ (word_length a.h) (YieldsList-at c.map.ensures.source (YieldsList-from_slice a.words.now c.iter.ensures.rest)) c.map.ensures.closure
+    (λ x r q k. search (rules, tests))) in
+    record { value = total ∙ sum-is_length a.h a.words.now; upper_bound = omega (arith, total, sum-most a.h c.requires.fact_1 a.words.now) }

@@ -72,7 +72,7 @@ overflow_add-value c =
     let a = c.args in
     let z = c.loop-left in
     let l = rest a.h a.words.now a.place.word a.place.bit in
-    let k = c.smaller-k.result in
+    let k = c.min-k.result in
     omega (arith, value-fits a.h a.words.now z.word z.bit a.n z.value z.left l z.invariant.0 z.invariant.1 k (rest-is-bits a.h a.words.now a.place.word a.place.bit) (omega arith) (omega arith), c.word_part.ensures, mod-lt (get_or a.words.now z.word 0 / 2 ^ (suc a.h - (z.bit + k))) (pow_pos k), pow_mono {i = k} {j = 16} (omega arith))
 
 pub overflow_add-bit : goal.overflow_add-bit
@@ -87,7 +87,7 @@ loop-left-preserved c =
     let a = c.args in
     let z = c.loop-left in
     let l = rest a.h a.words.now a.place.word a.place.bit in
-    let k = c.smaller-k.result in
+    let k = c.min-k.result in
     let near = more_left a.h a.words.now z.word z.bit a.n z.value z.left l z.invariant.0 z.invariant.1 c.requires.n_in_bounds
     (omega arith) in
     let more = take_more a.h a.words.now z.word z.bit a.n z.value z.left l z.invariant.0 z.invariant.1 k in (

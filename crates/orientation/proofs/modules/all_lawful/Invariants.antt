@@ -1,11 +1,8 @@
--- The greatest of the modules before k.
+-- The greatest of the modules so far.
 -- Assumes nothing.
-use Rattle.std.proofs.Common.{◌≡◌, ◌-◌, ◌≤◌, length, get_or}
+use Rattle.std.proofs.Common.{◌≡◌, get_or}
 use Rattle.orientation.specs.Greatest.{most}
 use Rattle.orientation.proofs.modules.all_lawful.Given as goal
 
-abbrev pub invariant-loop-k : goal.invariant-loop-k
-invariant-loop-k l = (l.k ≤ length l.grid) × (l.most ≡ most (λ i. get_or l.grid i 0) l.k)
-
-abbrev pub decreases-loop-k : goal.decreases-loop-k
-decreases-loop-k l = length l.grid - l.k
+abbrev pub invariant-loop-module : goal.invariant-loop-module
+invariant-loop-module l = l.most ≡ most (λ i. get_or l.grid i 0) l.module-index

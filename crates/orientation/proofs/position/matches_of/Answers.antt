@@ -8,41 +8,36 @@ use Rattle.symbol.specs.Positions.{place_in}
 use Rattle.orientation.specs.Position.{matches}
 use Rattle.orientation.proofs.position.matches_of.Invariants.{hit}
 use Rattle.orientation.proofs.position.matches_of.Goals as goal
-use Rattle.orientation.proofs.position.matches_of.Goals.{In-loop-k, else-grid-at, then-grid-at}
+use Rattle.orientation.proofs.position.matches_of.Goals.{In-loop-k, else-from-k, then-from-k}
 
 upright-lt : (c : In-loop-k)
-    → (let a = c.args in get_or a.upright.now c.loop-k.k 0 < a.n * a.n)
+    → (let a = c.args in get_or a.upright.now c.loop-k.k 0 < a.frame.side * a.frame.side)
 upright-lt c =
     let k = c.loop-k.k in
-    omega (arith, c.requires.fact_2 k (omega arith), orientation-lt c.args.full c.args.n c.requires.fact_1.0 k (omega arith))
+    omega (arith, c.requires.fact_2 k (omega arith), orientation-lt c.args.frame.full c.args.frame.side c.args.frame.room k (omega arith))
 
 pub loop-k-init : goal.loop-k-init
-loop-k-init c = (omega arith, sym (count_none _))
+loop-k-init c = sym (count_none _)
 
 pub place_in-at-requires : goal.place_in-at-requires
-place_in-at-requires c = (upright-lt (goal.at.place_in-at-requires c).In-loop-k, c.requires.fact_1.1, c.requires.fact_1.3)
-
-pub bounds-grid-at : goal.bounds-grid-at
-bounds-grid-at c = omega (arith, c.place_in-at.ensures.1, c.requires.fact_1.2)
+place_in-at-requires c = upright-lt (goal.at.place_in-at-requires c).In-loop-k
 
 pub overflow_add-matched : goal.overflow_add-matched
 overflow_add-matched c =
     let l = c.loop-k in
     let a = c.args in
-    omega (arith, l.invariant.1, count_most l.k (hit a.full a.n a.grid.now a.p))
+    omega (arith, l.invariant, count_most l.k (hit a.frame.full a.frame.side a.grid.now a.position.number))
 
 pub loop-k-preserved : goal.loop-k-preserved
 unfolding orientation_bits
 loop-k-preserved c =
     let l = c.loop-k in
     let a = c.args in
-    let place = c.place_in-at.ensures.0 ∙ ap (place_in a.n a.p) (c.requires.fact_2 l.k (omega arith)) in
+    let place = c.place_in-at.ensures.0 ∙ ap (place_in a.frame.side a.position.number) (c.requires.fact_2 l.k (omega arith)) in
     let at = ap (λ x. get_or a.grid.now x 0) place in
-    let test = hit a.full a.n a.grid.now a.p in (
-      omega arith,
-      elim c.if-grid-at.branch [ then-grid-at w ↦ w.matched-is ∙ count_yes l.k test l.invariant.1 (eq-eqb _ _ (sym at ∙ w.if-grid-at.true)) | else-grid-at w ↦ w.matched-is ∙ count_no l.k test l.invariant.1 (ne_eqb _ _ (λ e. w.if-grid-at.false (at ∙ e))) ],
-    )
+    let test = hit a.frame.full a.frame.side a.grid.now a.position.number in
+    elim c.if-from-k.branch [ then-from-k w ↦ w.matched-is ∙ count_yes l.k test l.invariant (eq-eqb _ _ (sym at ∙ sym c.from.ensures ∙ w.if-from-k.true)) | else-from-k w ↦ w.matched-is ∙ count_no l.k test l.invariant (ne_eqb _ _ (λ e. w.if-from-k.false (c.from.ensures ∙ at ∙ e))) ]
 
 pub returns : goal.returns
 unfolding matches
-returns c = let e : c.loop-k.k ≡ 12 = omega arith in rw e at c.loop-k.invariant.1
+returns c = let e : c.loop-k.k ≡ 12 = omega arith in rw e at c.loop-k.invariant

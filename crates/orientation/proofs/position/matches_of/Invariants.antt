@@ -1,6 +1,6 @@
 -- The matches of the first k.
 -- Assumes nothing.
-use Rattle.std.proofs.Common.{◌≡◌, Bool, List, ℕ, ◌-◌, ◌≤◌, eqb, get_or}
+use Rattle.std.proofs.Common.{◌≡◌, Bool, List, ℕ, eqb, get_or}
 use Rattle.list_laws.specs.Range.{count}
 use Rattle.symbol.specs.Places.{orientation_place}
 use Rattle.symbol.specs.Drawing.{orientation_bits}
@@ -12,7 +12,4 @@ abbrev pub hit : Bool → ℕ → List ℕ → ℕ → ℕ → Bool
 hit f n g p i = eqb (get_or g (place_in n p (orientation_place f n i)) 0) (get_or orientation_bits i 0)
 
 abbrev pub invariant-loop-k : goal.invariant-loop-k
-invariant-loop-k l = (l.k ≤ 12) × (l.matched ≡ count l.k (hit l.full l.n l.grid l.p))
-
-abbrev pub decreases-loop-k : goal.decreases-loop-k
-decreases-loop-k l = 12 - l.k
+invariant-loop-k l = l.matched ≡ count l.k (hit l.frame.full l.frame.side l.grid l.position.number)

@@ -21,17 +21,8 @@ by_turn {n} {p} {k} {x} {y} room most (h, e) =
     record { small = index-small n x y most row col; inside = index-lt n x y row col; place = ap₂ (λ (a b : ℕ). a * n + b) h e }
 
 known : (c : After-turned_cell-x)
-    → (let a = c.args in let x = c.turned_cell-x.result in Known a.n a.p a.k x.row x.col)
-known c = let s = c.requires in by_turn s.0 s.1 c.turned_cell-x.ensures
-
-pub nonzero_div-k : goal.nonzero_div-k
-nonzero_div-k c = omega (arith, row_lt c.args.n c.args.k c.requires.0)
-
-pub nonzero_rem-k : goal.nonzero_rem-k
-nonzero_rem-k c = omega (arith, row_lt c.args.n c.args.k c.requires.0)
-
-pub turned_cell-x-requires : goal.turned_cell-x-requires
-turned_cell-x-requires c = (row_lt c.args.n c.args.k c.requires.0, col-lt c.args.n c.args.k c.requires.0, c.requires.2)
+    → (let a = c.args in let x = c.turned_cell-x.result in Known a.frame.side a.position.number a.k x.row x.col)
+known c = by_turn c.requires c.args.frame.most c.turned_cell-x.ensures
 
 pub overflow_mul-result : goal.overflow_mul-result
 overflow_mul-result c = let k = known (goal.at.overflow_mul-result c).After-turned_cell-x in omega (arith, k.small)

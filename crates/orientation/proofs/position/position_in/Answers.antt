@@ -1,34 +1,16 @@
--- What is left of the search is the whole search's answer.
+-- The search over the eight positions.
 -- Assumes nothing.
-use Rattle.std.proofs.Common.{◌≡◌, refl, sym, ap, ◌∙◌, ◌+◌, ◌-◌, arith}
-use Rattle.list_laws.specs.Search.{first_from, first-here, first_next, first-none}
-use Rattle.orientation.specs.Position.{position_number}
-use Rattle.orientation.proofs.position.position_in.Invariants.{taken}
+use Rattle.std.proofs.Common.{◌∙◌, refl, rules, get_or}
+use borrow.Author.Tests.{tests}
+use Rattle.std.proofs.lemmas.Iterator.{YieldsList-from_range}
+use Rattle.std.proofs.lemmas.Iterator.Search.{find_from_yields_List}
+use Rattle.orientation.specs.Position.{single}
+use Rattle.orientation.proofs.Ranges.{find-range, same}
 use Rattle.orientation.proofs.position.position_in.Goals as goal
-
-pub loop-p-init : goal.loop-p-init
-loop-p-init c = (omega arith, refl)
-
-pub returns-then-is_single : goal.returns-then-is_single
-returns-then-is_single c =
-    let l = c.loop-p in
-    let test = taken c.args.counts.now in
-    ap position_number
-    (sym (first-here test l.p (8 - l.p) (omega arith) (sym c.is_single.ensures ∙ c.if-is_single.true)) ∙ l.invariant.1)
-
-pub loop-p-preserved : goal.loop-p-preserved
-loop-p-preserved c =
-    let l = c.loop-p in
-    let test = taken c.args.counts.now in (
-      omega arith,
-      ap (first_from test (l.p + 1)) (let z : 8 - (l.p + 1) ≡ 8 - l.p - 1 = omega arith in z)
-          ∙ sym (first_next test l.p (8 - l.p) (omega arith) (sym c.is_single.ensures ∙ c.if-is_single.false))
-          ∙ l.invariant.1,
-    )
 
 pub returns : goal.returns
 returns c =
-    let l = c.loop-p in
-    let test = taken c.args.counts.now in
-    ap position_number
-    (sym (first-none test l.p) ∙ ap (first_from test l.p) (let z : 0 ≡ 8 - l.p = omega arith in z) ∙ l.invariant.1)
+    let test = single (λ q. get_or c.args.counts.now q 0) in
+    same c.find.result
+    ∙ find_from_yields_List test _ _ c.find.result c.find.ensures.ran (YieldsList-from_range 0 8 8 refl refl) (λ x b q k. search (rules, tests))
+    ∙ find-range test 0 8

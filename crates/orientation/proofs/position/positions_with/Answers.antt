@@ -33,6 +33,3 @@ loop-p-preserved c =
     let test = has a.most a.counts.now in
     let fact = ne_eqb (get_or a.counts.now (l.p - 1) 0) a.most (λ e. omega (arith, e, c.if-counts-p.false)) in
     (omega arith, omega (arith, mask-down test l.p 8 (omega arith) l.invariant.0 l.invariant.1, ap one fact))
-
-pub returns : goal.returns
-returns c = let end : c.loop-p.p ≡ 0 = omega arith in rw end at c.loop-p.invariant.1

@@ -12,7 +12,6 @@ loop-rings-init c =
     let a = c.args in
     let all : (a.side + 1) / 2 - 0 ≡ (a.side + 1) / 2 = omega arith in
     record {
-      in_range = omega arith;
       room = refl;
       kept = refl;
       same = ap (λ n. read_from a.grid.now a.side a.message.now n 0 11) all ∙ whole a.grid.now a.side a.message.now;
@@ -72,7 +71,6 @@ loop-rings-preserved c =
     let kept = (decode-kept (inner a.grid.now a.side l.rings) a.message.now (inner_side a.side l.rings)).kept refusing in
     let most = (a.side + 1) / 2 in
     record {
-      in_range = omega arith;
       room = search rules;
       kept = r.message_after ∙ ap (λ s. s.message) same ∙ kept;
       same =

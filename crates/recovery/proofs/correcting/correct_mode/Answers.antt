@@ -6,7 +6,7 @@ use Rattle.recovery.proofs.correcting.correct_mode.Goals as goal
 use Rattle.recovery.proofs.correcting.correct_mode.Goals.{After-mode_run_of-run}
 
 short : (c : After-mode_run_of-run) → c.mode_run_of-run.result ≤ 10
-short c = omega (arith, c.mode_run_of-run.ensures, run-most c.args.full)
+short c = omega (arith, c.mode_run_of-run.ensures, run-most c.args.frame.full)
 
 pub slice_bounds-received-end : goal.slice_bounds-received-end
 slice_bounds-received-end c = short c
@@ -24,10 +24,10 @@ pub correct_mode_with-requires : goal.correct_mode_with-requires
 correct_mode_with-requires c =
     let m = (goal.at.correct_mode_with-requires c).After-mode_run_of-run in
     let a = m in record {
-      full_bound = (a.requires.0, a.requires.1, a.requires.2);
+      upright_len = a.requires.0;
       received_len = (
         length-take-le m.mode_run_of-run.result _ (short m) ∙ m.mode_run_of-run.ensures,
         length-take-le m.mode_run_of-run.result _ (short m) ∙ m.mode_run_of-run.ensures,
-        a.requires.3,
+        a.requires.1,
       );
     }

@@ -10,13 +10,13 @@ use Rattle.recovery.proofs.correcting.correct_mode_with.Goals as goal
 
 pub returns : goal.returns
 returns c =
-    let ws = mode_words_of c.args.full c.args.n c.args.upright.now in
-    let ms = mode_marks_of c.args.full c.args.n c.args.upright.now in
+    let ws = mode_words_of c.args.frame.full c.args.frame.side c.args.upright.now in
+    let ms = mode_marks_of c.args.frame.full c.args.frame.side c.args.upright.now in
     let same =
     ap (λ k. correct_of 4 k c.read_mode.new.mode_words c.read_mode.new.marks c.args.corrected.now)
     c.mode_checks_of.ensures
-    ∙ ap₂ (λ r m. correct_of 4 (mode_checks c.args.full) r m c.args.corrected.now) c.read_mode.ensures.mode_words_after c.read_mode.ensures.marks_after in
-    corrected-by 4 (mode_checks c.args.full) ws ms (mode-lawful c.args.full c.args.n c.args.upright.now) c.args.corrected.now
+    ∙ ap₂ (λ r m. correct_of 4 (mode_checks c.args.frame.full) r m c.args.corrected.now) c.read_mode.ensures.mode_words_after c.read_mode.ensures.marks_after in
+    corrected-by 4 (mode_checks c.args.frame.full) ws ms (mode-lawful c.args.frame.full c.args.frame.side c.args.upright.now) c.args.corrected.now
     c.correct.new.corrected c.correct.result
-    (c.requires.received_len.2 ∙ length-mode-of c.args.full c.args.n c.args.upright.now)
+    (c.requires.received_len.2 ∙ length-mode-of c.args.frame.full c.args.frame.side c.args.upright.now)
     (c.correct.ensures.value ∙ ap (λ r. r.number) same) (c.correct.ensures.corrected_after ∙ ap (λ r. r.words) same)

@@ -1,6 +1,6 @@
 -- The tests one after the other, and the answer of the call where all pass.
 -- Assumes nothing.
-use Rattle.std.proofs.Common.{◌≡◌, refl, sym, ap, List, ℕ, ◌^◌, ◌<◌, arith, length}
+use Rattle.std.proofs.Common.{rules, None, ◌≡◌, refl, sym, ap, List, ℕ, ◌^◌, ◌<◌, arith, length}
 use Rattle.std.proofs.Math.Option.{Option, none}
 use Rattle.finite_field.specs.Field.{size_of, bits}
 use Rattle.finite_field.specs.FieldLaws.{most-words}
@@ -8,16 +8,16 @@ use Rattle.block_code.specs.Nearest.{nearest}
 use Rattle.block_code.specs.NearestLaws.{too-many-marks}
 use Rattle.reed_solomon.specs.Correct.{answer}
 use Rattle.reed_solomon.proofs.Judging.{Counts, as-answer, judge-32, judge-33, judge-answer, lawful}
-use Rattle.reed_solomon.proofs.Reading.{refused-words, read-words}
+use Rattle.reed_solomon.proofs.Reading.{refused-words, read-words, read-count}
 use Rattle.reed_solomon.proofs.corrector.examine.Goals as goal
 
-pub returns-then-powers-n : goal.returns-then-powers-n
-returns-then-powers-n c =
+pub returns-then-words-n : goal.returns-then-words-n
+returns-then-words-n c =
     let all = let a = c.args in
-    let size = size_of a.size in
+    let size = size_of a.field.now.size in
     let received = a.received.now in
     let marks = a.marks.now in
-    as-answer (judge-32 size a.check_words received marks a.corrected.now (λ k. omega (arith, c.requires.tables_1.exp-length))) (refl, refl) in record {
+    as-answer (judge-32 size a.check_words received marks a.corrected.now (λ k. omega (arith, c.args.field.now.tables.exp-length))) (refl, refl) in record {
       value = all.0;
       corrected_after = all.1;
     }
@@ -25,7 +25,7 @@ returns-then-powers-n c =
 pub returns-then-check_words-eq0 : goal.returns-then-check_words-eq0
 returns-then-check_words-eq0 c =
     let all = let a = c.args in
-    let size = size_of a.size in
+    let size = size_of a.field.now.size in
     let received = a.received.now in
     let marks = a.marks.now in
     as-answer (judge-32 size a.check_words received marks a.corrected.now (λ k. omega arith)) (refl, refl) in record {
@@ -36,7 +36,7 @@ returns-then-check_words-eq0 c =
 pub returns-then-n-check_words : goal.returns-then-n-check_words
 returns-then-n-check_words c =
     let all = let a = c.args in
-    let size = size_of a.size in
+    let size = size_of a.field.now.size in
     let received = a.received.now in
     let marks = a.marks.now in
     as-answer (judge-32 size a.check_words received marks a.corrected.now (λ k. omega arith)) (refl, refl) in record {
@@ -44,27 +44,28 @@ returns-then-n-check_words c =
       corrected_after = all.1;
     }
 
-pub read_block-e-requires : goal.read_block-e-requires
-read_block-e-requires c =
+pub read_block-requires : goal.read_block-requires
+read_block-requires c =
     let a = c.args in
-    let size = size_of a.size in
+    let size = size_of a.field.now.size in
     let received = a.received.now in
     let marks = a.marks.now in
-    let lt : length received < 2 ^ bits size = omega (arith, c.requires.tables_1.exp-length) in record {
-      fact_1 = c.requires.tables_2;
+    let lt : length received < 2 ^ bits size = omega (arith, c.args.field.now.tables.exp-length) in record {
+      fact_1 = c.requires.lengths_1;
       fact_2 = omega (arith, (c.requires.blank_1 lt).longer);
-      fact_3 = omega (arith, c.requires.tables_1.exp-length, most-words size);
+      fact_3 = omega (arith, c.args.field.now.tables.exp-length, most-words size);
     }
 
-pub returns-then-n-e : goal.returns-then-n-e
-returns-then-n-e c =
+pub returns-in_default : goal.returns-in_default
+returns-in_default c =
     let all = let a = c.args in
-    let size = size_of a.size in
+    let size = size_of a.field.now.size in
     let received = a.received.now in
     let marks = a.marks.now in
-    let counts : Counts size a.check_words (length received) = (omega (arith, c.requires.tables_1.exp-length), omega arith, omega arith) in
-    let read = c.read_block-e.ensures size c.requires.tables_1.exp-length in
-    as-answer (judge-33 size a.check_words received marks a.corrected.now counts (refused-words size received marks c.requires.tables_2 read c.if-n-e.true)) (refl, refl) in record {
+    let counts : Counts size a.check_words (length received) = (omega (arith, a.field.now.tables.exp-length), omega arith, omega arith) in
+    let read = c.read_block.ensures size a.field.now.tables.exp-length in
+    let none : c.read_block.result ≡ None = search rules in
+    as-answer (judge-33 size a.check_words received marks a.corrected.now counts (refused-words size received marks read none)) (refl, refl) in record {
       value = all.0;
       corrected_after = all.1;
     }
@@ -72,14 +73,15 @@ returns-then-n-e c =
 pub returns-then-check_words-e : goal.returns-then-check_words-e
 returns-then-check_words-e c =
     let all = let a = c.args in
-    let size = size_of a.size in
+    let size = size_of a.field.now.size in
     let received = a.received.now in
     let marks = a.marks.now in
-    let counts : Counts size a.check_words (length received) = (omega (arith, c.requires.tables_1.exp-length), omega arith, omega arith) in
-    let read = c.read_block-e.ensures size c.requires.tables_1.exp-length in
-    let words = read-words size received marks read (omega (arith, c.if-n-e.false)) in
+    let counts : Counts size a.check_words (length received) = (omega (arith, a.field.now.tables.exp-length), omega arith, omega arith) in
+    let read = c.read_block.ensures size a.field.now.tables.exp-length in
+    let words = read-words size received marks read c.in-Some.is in
     let out : nearest size a.check_words a.check_words received marks ≡ none
-    = too-many-marks size a.check_words a.check_words received marks (omega (arith, read.marks-counted words, c.if-check_words-e.true)) in
+    = too-many-marks size a.check_words a.check_words received marks
+    (omega (arith, read-count size received marks read c.in-Some.is, c.if-check_words-e.true)) in
     as-answer (judge-answer size a.check_words received marks a.corrected.now counts words) (
       sym (ap (λ (o : Option (List ℕ)). (answer o a.corrected.now).number) out),
       sym (ap (λ (o : Option (List ℕ)). (answer o a.corrected.now).words) out),
@@ -91,31 +93,31 @@ returns-then-check_words-e c =
 pub solve-requires : goal.solve-requires
 solve-requires c =
     let a = c.args in
-    let size = size_of a.size in
+    let size = size_of a.field.now.size in
     let received = a.received.now in
     let marks = a.marks.now in
-    let counts : Counts size a.check_words (length received) = (omega (arith, c.requires.tables_1.exp-length), omega arith, omega arith) in
-    let read = c.read_block-e.ensures size c.requires.tables_1.exp-length in
-    let words = read-words size received marks read (omega (arith, c.if-n-e.false)) in
-    let l = lawful size a.check_words received marks a.corrected.now counts words c.requires.tables_2 in record {
-      tables_1 = c.requires.tables_1;
-      tables_2 = l;
-      tables_3 = c.requires.tables_3;
-      tables_4 = omega (arith, read.marks-counted words, c.if-check_words-e.false);
+    let counts : Counts size a.check_words (length received) = (omega (arith, a.field.now.tables.exp-length), omega arith, omega arith) in
+    let read = c.read_block.ensures size a.field.now.tables.exp-length in
+    let words = read-words size received marks read c.in-Some.is in
+    let l = lawful size a.check_words received marks a.corrected.now counts words c.requires.lengths_1 in record {
+      lawful = l;
+      same_length = c.requires.lengths_2;
+      few = omega (arith, read-count size received marks read c.in-Some.is, c.if-check_words-e.false);
       coefficients_1 = read.coefficients words;
-      coefficients_2 = omega (arith, c.read_block-e.auto.to, (c.requires.blank_1 l.length-lt).longer);
+      coefficients_2 = omega (arith, c.read_block.auto.to, (c.requires.blank_1 l.length-lt).longer);
       coefficients_3 = c.requires.blank_2 l.length-lt;
     }
 
 pub returns : goal.returns
 returns c =
     let all = let a = c.args in
-    let size = size_of a.size in
+    let size = size_of a.field.now.size in
     let received = a.received.now in
     let marks = a.marks.now in
-    let counts : Counts size a.check_words (length received) = (omega (arith, c.requires.tables_1.exp-length, c.if-powers-n.false), omega (arith, c.if-check_words-eq0.false), omega (arith, c.if-n-check_words.false)) in
-    let read = c.read_block-e.ensures size c.requires.tables_1.exp-length in
-    let words = read-words size received marks read (omega (arith, c.if-n-e.false)) in
+    let counts : Counts size a.check_words (length received)
+    = (omega (arith, a.field.now.tables.exp-length, c.if-words-n.false), omega (arith, c.if-check_words-eq0.false), omega (arith, c.if-n-check_words.false)) in
+    let read = c.read_block.ensures size a.field.now.tables.exp-length in
+    let words = read-words size received marks read c.in-Some.is in
     as-answer (judge-answer size a.check_words received marks a.corrected.now counts words) (c.solve.ensures.value, c.solve.ensures.corrected_after) in record {
       value = all.0;
       corrected_after = all.1;

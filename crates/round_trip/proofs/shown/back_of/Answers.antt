@@ -1,17 +1,17 @@
 -- Only positions 1 and 3 are not their own inverses.
 -- Assumes nothing.
-use Rattle.std.proofs.Common.{sym, ap}
+use Rattle.std.proofs.Common.{sym, ap, arith}
 use Rattle.symbol.specs.Positions.{back}
 use Rattle.round_trip.specs.Placing.{back-own}
 use Rattle.round_trip.proofs.shown.back_of.Goals as goal
 
-pub returns-then-position-eq1 : goal.returns-then-position-eq1
+pub returns-in-1 : goal.returns-in-1
 unfolding back
-returns-then-position-eq1 c = ap back (sym c.if-position-eq1.true)
+returns-in-1 c = ap back (sym c.in-1.is)
 
-pub returns-then-position-eq3 : goal.returns-then-position-eq3
+pub returns-in-3 : goal.returns-in-3
 unfolding back
-returns-then-position-eq3 c = ap back (sym c.if-position-eq3.true)
+returns-in-3 c = ap back (sym c.in-3.is)
 
-pub returns : goal.returns
-returns c = back-own _ c.if-position-eq1.false c.if-position-eq3.false
+pub returns-in_default : goal.returns-in_default
+returns-in_default c = back-own _ (λ e. omega arith) (λ e. omega arith)

@@ -12,12 +12,14 @@ use Rattle.round_trip.proofs.shown.read_shown.Goals.{After-back_of, Start}
 abbrev start : After-back_of → Start
 start c = (goal.at.After-back_of c).Start
 
-pub turn_upright-requires : goal.turn_upright-requires
-turn_upright-requires c =
-    let b = (goal.at.turn_upright-requires c).After-back_of in
+pub numbered-back-requires : goal.numbered-back-requires
+numbered-back-requires c =
+    let b = (goal.at.numbered-back-requires c).After-back_of in
     let s = start b in
-    let lawful = subst (λ q. q < 8) (sym b.back_of.ensures) (back-lt s.args.position s.requires.1) in
-    (lawful, s.requires.0, s.requires.2, omega (arith, s.requires.3))
+    subst (λ q. q < 8) (sym b.back_of.ensures) (back-lt s.args.position s.requires.1)
+
+pub turn_upright-requires : goal.turn_upright-requires
+turn_upright-requires c = (c.requires.0, c.requires.2, omega (arith, c.requires.3))
 
 pub returns : goal.returns
 returns c =
@@ -26,7 +28,7 @@ returns c =
     c.damage.ensures
     ∙ ap (λ g. damaged g a.changes.now)
     (c.turn_upright.ensures
-    ∙ ap (λ q. writes a.tag.now (λ k. k) (module_at a.side q a.made.now) (a.side * a.side)) c.back_of.ensures
+    ∙ ap (λ q. writes a.tag.now (λ k. k) (module_at a.side q a.made.now) (a.side * a.side)) (c.numbered-back.ensures ∙ c.back_of.ensures)
     ∙ placed-by-back a.side a.position a.made.now a.tag.now (sym c.requires.3)) in record {
       value = c.decode.ensures.value ∙ ap (λ g. (decode_of g a.side a.read.now).answer) e;
       read_after = c.decode.ensures.message_after ∙ ap (λ g. (decode_of g a.side a.read.now).message) e;

@@ -13,17 +13,17 @@ start c = (goal.at.After-mode_places c).Start
 
 pub mode_places-requires : goal.mode_places-requires
 mode_places-requires c =
-    (c.requires.full_bound.0, c.requires.full_bound.1, omega (arith, run-most c.args.full))
+    omega (arith, run-most c.args.frame.full)
 
 pub read_words-requires : goal.read_words-requires
 read_words-requires c =
     let e = (goal.at.read_words-requires c).After-mode_places in
     let s = start e in
     let a = s.args in record {
-      le_size = (search rules, search rules, omega (arith, s.requires.mode_words_len), omega (arith, s.requires.mode_words_len, run-most a.full));
-      places_fit = table_fits (replicate 40 0) (mode_place a.full a.n) (4 * mode_run a.full) (omega (arith, run-most a.full))
+      le_size = (search rules, search rules, omega (arith, s.requires.mode_words_len), omega (arith, s.requires.mode_words_len, run-most a.frame.full));
+      places_fit = table_fits (replicate 40 0) (mode_place a.frame.full a.frame.side) (4 * mode_run a.frame.full) (omega (arith, run-most a.frame.full))
           e.mode_places.ensures (omega (arith, s.requires.mode_words_len)) _
-          (λ i h. omega (arith, s.requires.full_bound, mode-lt a.full a.n s.requires.full_bound.0 i h));
+          (λ i h. omega (arith, s.requires.upright_len, mode-lt a.frame.full a.frame.side a.frame.room i h));
     }
 
 pub returns : goal.returns
@@ -33,7 +33,7 @@ returns c =
     let a = s.args in
     let u = a.upright.now in
     let read = c.read_words.ensures in
-    let room = run-most a.full in record {
-      mode_words_after = mode-values a.full a.n u (replicate 40 0) (omega arith) e.mode_places.ensures s.requires.mode_words_len.0 read.words_after;
-      marks_after = mode-marks a.full a.n u (replicate 40 0) (omega arith) e.mode_places.ensures s.requires.mode_words_len.0 read.marks_after;
+    let room = run-most a.frame.full in record {
+      mode_words_after = mode-values a.frame.full a.frame.side u (replicate 40 0) (omega arith) e.mode_places.ensures s.requires.mode_words_len.0 read.words_after;
+      marks_after = mode-marks a.frame.full a.frame.side u (replicate 40 0) (omega arith) e.mode_places.ensures s.requires.mode_words_len.0 read.marks_after;
     }

@@ -1,13 +1,10 @@
 -- The first w words' marks are written.
 -- Assumes nothing.
-use Rattle.std.proofs.Common.{◌≡◌, ◌-◌, ◌≤◌, length}
+use Rattle.std.proofs.Common.{◌≡◌, length}
 use Rattle.list_laws.specs.Filled.{filled}
 use Rattle.sampling.specs.Flat.{flat_mark}
 use Rattle.sampling.proofs.flat.mark_flat.Given as goal
 
 abbrev pub invariant-loop-w : goal.invariant-loop-w
 invariant-loop-w l =
-    (l.w ≤ l.count) × (length l.marks ≡ length l.initial.marks) × (l.marks ≡ filled (flat_mark l.size l.words l.initial.marks) l.w l.initial.marks)
-
-abbrev pub decreases-loop-w : goal.decreases-loop-w
-decreases-loop-w l = l.count - l.w
+    (length l.marks ≡ length l.initial.marks) × (l.marks ≡ filled (flat_mark l.size l.words l.initial.marks) l.w l.initial.marks)

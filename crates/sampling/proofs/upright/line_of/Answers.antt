@@ -12,8 +12,8 @@ start-lt c =
     let e = c.turned_cell-first.ensures in
     omega (
       arith,
-      first-lt n c.args.position c.args.row c.requires.2 e.0 e.1,
-      mul-le-mul {n₁ = n} {m₁ = n} {n₂ = 151} {m₂ = 151} c.requires.1 c.requires.1,
+      first-lt n c.args.position.number c.args.row c.requires.1 e.0 e.1,
+      mul-le-mul {n₁ = n} {m₁ = n} {n₂ = 151} {m₂ = 151} c.requires.0 c.requires.0,
     )
 
 pub overflow_mul-start : goal.overflow_mul-start
@@ -28,8 +28,8 @@ returns-in-0 c =
     let s = t in
     let a = s.args in
     let e = t.turned_cell-first.ensures in
-    along a.n a.position a.row s.requires.2 e.0 e.1 _ _ (omega arith) (omega arith)
-    (λ k h. rightward a.n a.row k h a.position c.in-0.is)
+    along a.n a.position.number a.row s.requires.1 e.0 e.1 _ _ (omega arith) (omega arith)
+    (λ k h. rightward a.n a.row k h a.position.number c.in-0.is)
 
 pub returns-in-1 : goal.returns-in-1
 returns-in-1 c =
@@ -37,8 +37,8 @@ returns-in-1 c =
     let s = t in
     let a = s.args in
     let e = t.turned_cell-first.ensures in
-    along a.n a.position a.row s.requires.2 e.0 e.1 _ _ (omega arith) (omega arith)
-    (λ k h. downward a.n a.row k h a.position c.in-1.is)
+    along a.n a.position.number a.row s.requires.1 e.0 e.1 _ _ (omega arith) (omega arith)
+    (λ k h. downward a.n a.row k h a.position.number c.in-1.is)
 
 pub returns-in-2 : goal.returns-in-2
 returns-in-2 c =
@@ -46,8 +46,8 @@ returns-in-2 c =
     let s = t in
     let a = s.args in
     let e = t.turned_cell-first.ensures in
-    along a.n a.position a.row s.requires.2 e.0 e.1 _ _ (omega arith) (omega arith)
-    (λ k h. leftward a.n a.row k h a.position c.in-2.is)
+    along a.n a.position.number a.row s.requires.1 e.0 e.1 _ _ (omega arith) (omega arith)
+    (λ k h. leftward a.n a.row k h a.position.number c.in-2.is)
 
 pub returns-in_default : goal.returns-in_default
 returns-in_default c =
@@ -55,5 +55,5 @@ returns-in_default c =
     let s = t in
     let a = s.args in
     let e = t.turned_cell-first.ensures in
-    along a.n a.position a.row s.requires.2 e.0 e.1 _ _ (omega arith) (omega arith)
-    (λ k h. upward a.n a.row k h a.position (three-or-five a.position s.requires.0 (search rules) (search rules) (search rules)))
+    along a.n a.position.number a.row s.requires.1 e.0 e.1 _ _ (omega arith) (omega arith)
+    (λ k h. upward a.n a.row k h a.position.number (three-or-five a.position.number a.position.lawful (search rules) (search rules) (search rules)))

@@ -1,36 +1,30 @@
 -- Each byte either ends the reading with nothing, or is read into the value.
-use Rattle.std.proofs.Common.{arith, ◌∙◌}
-use Rattle.show_tag.specs.ReadingLaws.{read-empty, read-start, read_low, read-high, read-over, read_next, read-end}
+use Rattle.std.proofs.Common.{◌∙◌, ap, sym, arith, ◌+◌, option_and_then, drop}
+use borrow.Author.Tests.{eqb-false}
+use Rattle.show_tag.specs.Reading.{read_from}
+use Rattle.show_tag.specs.ReadingLaws.{read-empty, read-start, read_step, read-end}
 use Rattle.show_tag.proofs.decimal.read.Goals as goal
 
-pub returns-then-text-eq0 : goal.returns-then-text-eq0
-returns-then-text-eq0 c = read-empty c.args.text.now c.if-text-eq0.true
+pub returns-then-is_empty : goal.returns-then-is_empty
+returns-then-is_empty c = read-empty c.args.text.now (search (arith, c.if-is_empty.ensures))
 
-pub loop-i-init : goal.loop-i-init
-loop-i-init c = record {
-  in_range = omega arith;
-  fits = omega arith;
-  same = read-start c.args.text.now (omega arith);
-}
+pub loop-byte-init : goal.loop-byte-init
+loop-byte-init c = read-start c.args.text.now (omega (arith, eqb-false _ _ (sym c.if-is_empty.ensures)))
 
-pub returns-then-byte-lt48 : goal.returns-then-byte-lt48
-returns-then-byte-lt48 c =
-    read_low c.loop-i.value c.loop-i.i c.args.text.now (omega arith) (omega arith) ∙ c.loop-i.invariant.same
+pub loop-byte-preserved : goal.loop-byte-preserved
+loop-byte-preserved c =
+    let l = c.loop-byte in
+    let text = c.args.text.now in
+    ap (option_and_then (λ v. read_from v (drop (l.byte-index + 1) text))) c.in_ok-value.ensures ∙ read_step l.value l.byte-index text (omega arith) ∙ l.invariant
 
-pub returns-then-byte-gt57 : goal.returns-then-byte-gt57
-returns-then-byte-gt57 c =
-    read-high c.loop-i.value c.loop-i.i c.args.text.now (omega arith) (omega arith) (omega arith) ∙ c.loop-i.invariant.same
-
-pub returns-then-value-gt4294967295 : goal.returns-then-value-gt4294967295
-returns-then-value-gt4294967295 c =
-    read-over c.loop-i.value c.loop-i.i c.args.text.now (omega arith) (omega arith) (omega arith) (omega arith) ∙ c.loop-i.invariant.same
-
-pub loop-i-preserved : goal.loop-i-preserved
-loop-i-preserved c = record {
-  in_range = omega arith;
-  fits = omega arith;
-  same = read_next c.loop-i.value c.loop-i.i c.args.text.now (omega arith) (omega arith) (omega arith) (omega arith) ∙ c.loop-i.invariant.same;
-}
+pub returns-in_err-value : goal.returns-in_err-value
+returns-in_err-value c =
+    let l = c.loop-byte in
+    let text = c.args.text.now in
+    c.from_residual.ensures
+    ∙ ap (option_and_then (λ v. read_from v (drop (l.byte-index + 1) text))) c.in_err-value.ensures
+    ∙ read_step l.value l.byte-index text (omega arith)
+    ∙ l.invariant
 
 pub returns : goal.returns
-returns c = read-end c.loop-i.value c.loop-i.i c.args.text.now (omega arith) ∙ c.loop-i.invariant.same
+returns c = read-end c.loop-byte.value c.loop-byte.byte-index c.args.text.now (omega arith) ∙ c.loop-byte.invariant

@@ -1,22 +1,17 @@
--- The loop's invariant: no code passed is b's. Of the table's numbers only b stands for b.
+-- The search's test is that of the definition.
 -- Assumes nothing.
-use Rattle.std.proofs.Common.{arith, below_more, rules}
-use Rattle.stream.specs.Codes.{chars, table}
-use Rattle.stream.proofs.CodeTables.{numbers, code-found, code-none}
+use Rattle.std.proofs.Common.{rules, tests, ap, ◌∙◌, [], get_or}
+use Rattle.std.proofs.lemmas.Iterator.{YieldsList-from_slice}
+use Rattle.std.proofs.lemmas.Iterator.Search.{position_from_yields_List}
+use Rattle.stream.specs.Codes.{set_number, set-number-below, chars, table, row, is_char}
+use Rattle.stream.proofs.CodeTables.{char-test, code-found}
 use Rattle.stream.proofs.codes.code_in.Goals as goal
 
-pub returns-then-row-code : goal.returns-then-row-code
-unfolding numbers chars table
-returns-then-row-code c =
-    let loop = c.loop-code in
-    let a = c.args in
-    code-found a.set a.b loop.code (search rules) (search rules) (search rules) c.if-row-code.true loop.invariant.1
-
-pub loop-code-preserved : goal.loop-code-preserved
-loop-code-preserved c = (search rules, below_more _ _ c.loop-code.invariant.1 c.if-row-code.false)
-
 pub returns : goal.returns
-unfolding numbers chars table
+unfolding chars table row
 returns c =
     let a = c.args in
-    code-none a.set a.b (search rules) (search rules) (λ k l. c.loop-code.invariant.1 k (omega arith))
+    let codes = c.iter.ensures.rest ∙ ap (λ s. get_or table s []) c.from.ensures in
+    let found = position_from_yields_List (is_char a.b) _ _ c.position.result c.position.ensures.ran
+    (YieldsList-from_slice (row (set_number a.set)) codes) (λ x b q k. (search (rules, tests), char-test a.b x.now b (search (rules, tests)))) in
+    code-found (set_number a.set) a.b (set-number-below a.set) c.position.result found

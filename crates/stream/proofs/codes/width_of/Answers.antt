@@ -1,13 +1,19 @@
--- The test of the set is the definition's.
+-- The set's number is 4, or not.
 -- Assumes nothing.
-use Rattle.std.proofs.Common.{sym, ap, cond, eq-eqb, ne_eqb}
-use Rattle.stream.specs.Codes.{width}
+use Rattle.std.proofs.Common.{sym, ap, inl, inr}
+use Rattle.stream.specs.Codes.{set_number, width}
 use Rattle.stream.proofs.codes.width_of.Goals as goal
 
-pub returns-then-set-eq4 : goal.returns-then-set-eq4
+pub returns-in-Upper : goal.returns-in-Upper
 unfolding width
-returns-then-set-eq4 c = sym (ap (λ t. cond t 4 5) (eq-eqb c.args.set 4 c.if-set-eq4.true))
+returns-in-Upper c =
+    elim c.in-Upper.is [
+      | inl e ↦ sym (ap (λ s. width (set_number s)) e)
+      | inr (inl e) ↦ sym (ap (λ s. width (set_number s)) e)
+      | inr (inr (inl e)) ↦ sym (ap (λ s. width (set_number s)) e)
+      | inr (inr (inr e)) ↦ sym (ap (λ s. width (set_number s)) e)
+    ]
 
-pub returns : goal.returns
+pub returns-in-Digit : goal.returns-in-Digit
 unfolding width
-returns c = sym (ap (λ t. cond t 4 5) (ne_eqb c.args.set 4 c.if-set-eq4.false))
+returns-in-Digit c = sym (ap (λ s. width (set_number s)) c.in-Digit.is)

@@ -1,202 +1,115 @@
--- The bytes read so far stand at the front of the buffer, and what follows their bits stands at the place.
+-- The bytes read so far stand at the front of the buffer.
 -- Assumes nothing.
-use Rattle.std.proofs.Common.{◌≡◌, refl, sym, ap, ◌∙◌, false, List, [], ℕ, ◌+◌, ◌-◌, ◌≤◌, ◌<◌, arith, length, drop, length-drop, drop-drop}
-use denote.Enum.Declared.{tag_of}
-use Rattle.stream.specs.contracts.items.Found.{the_type}
-use Rattle.stream.specs.declared.items.Item.{Item}
-use Rattle.stream.specs.declared.items.Found.TheVariants.{Whole}
-use Rattle.stream.specs.Items.{adds, yields, extra, stops, item_at, read_items}
+use Rattle.std.proofs.Common.{◌+◌, ◌≤◌, ℕ, List, refl, ap, subst, subst₂, ◌∙◌, [], ◌-◌, arith, length, drop, length-drop}
+use Rattle.stream.specs.Codes.{set_number}
+use Rattle.stream.specs.Items.{adds, yields, extra, read_items}
+use Rattle.stream.specs.ReadingLaws.{Live}
 use Rattle.stream.specs.Stuffing.{unstuff_from}
 use Rattle.stream.specs.StuffingLaws.{unstuff-is-bits}
-use Rattle.item_reader.specs.Places.{rest, stands-start}
+use Rattle.item_reader.specs.Places.{rest}
 use Rattle.stream_reader.specs.Scan.{scan-start}
+use Rattle.stream_reader.specs.Steps.{Passed, Stepped}
 use Rattle.stream_reader.specs.Written.{Room}
-use Rattle.stream_reader.proofs.Passes.{bits_left, stands-further}
-use Rattle.stream_reader.proofs.Filling.{read-room, written_all, filled-length, item-bounds, filled-item, filled-fault, filled-stop}
+use Rattle.stream_reader.proofs.Filling.{read-room, written_all, item-bounds, filled-item, filled-found, filled-stop}
 use Rattle.stream_reader.proofs.message.write_message.Goals as goal
-use Rattle.stream_reader.proofs.message.write_message.Goals.{After-bytes_of-n, After-extra_of-more, At-loop-place, In-Whole, In-loop-place, Start}
+use Rattle.stream_reader.proofs.message.write_message.Goals.{After-next, In-Some}
 
--- at the head of a turn: the bits of the words, and those that are left
-module _ (c : At-loop-place) where
-  abbrev start : Start
-  start = (goal.at.At-loop-place c).Start
+pub loop-item-init : goal.loop-item-init
+loop-item-init c =
+    let a = c.args in
+    let e = c.new-reader.ensures in
+    let l = unstuff_from (a.word_size - 1) a.words.now in
+    let start = scan-start a.word_size (omega arith) c.requires.le_word_size_2 l (unstuff-is-bits (a.word_size - 1) a.words.now) in
+    (rw (e.2, e.3) record { done = []; size = refl; read = start; buffer = refl }, ap (λ w. w.now) e.0, e.1)
 
+-- what the step found, of the words that the call was given
+said : (c : After-next) → Stepped c.args.word_size c.args.words.now c.loop-item.reader.at (set_number c.loop-item.reader.set) c.next.result
+    c.next.new.self.at (set_number c.next.new.self.set)
+said c =
+    let z = c.loop-item in
+    subst₂ (λ B words. Stepped B words z.reader.at (set_number z.reader.set) c.next.result c.next.new.self.at (set_number c.next.new.self.set))
+    z.invariant.2 z.invariant.1 c.next.ensures.step
+
+pub unwrap-requires : goal.unwrap-requires
+unwrap-requires c =
+    let a = c.args in
+    let z = c.loop-item in
+    filled-found a.word_size (omega arith) c.requires.le_word_size_2 a.words.now z.reader.at (set_number z.reader.set) z.length a.message.now
+    z.message z.invariant.0 (read-room a.word_size a.words.now a.message.now c.requires.room) _ _ c.next.result (said c)
+
+-- an item is passed
+module _ (c : In-Some) where
   abbrev B : ℕ
-  B = start.args.word_size
+  B = c.args.word_size
 
   abbrev words : List ℕ
-  words = start.args.words.now
-
-  abbrev buffer : List ℕ
-  buffer = start.args.message.now
+  words = c.args.words.now
 
   abbrev stream : List ℕ
   stream = unstuff_from (B - 1) words
 
-  abbrev left : List ℕ
-  left = rest (B - 1) words c.loop-place.place.word c.loop-place.place.bit
+  room : Room (read_items B stream) c.args.message.now
+  room = read-room B words c.args.message.now c.requires.room
 
-  some : 0 < B
-  some = omega (arith, start.requires.le_word_size_1)
+  step : Live B (drop c.loop-item.reader.at stream)
+      × Passed (B - 1) words (drop c.loop-item.reader.at stream) c.loop-item.reader.at (set_number c.loop-item.reader.set) c.in-Some.item
+      c.in-Some.bytes c.next.new.self.at (set_number c.next.new.self.set)
+  step =
+      let z = c.loop-item in
+      subst (λ f. Stepped B words z.reader.at (set_number z.reader.set) f c.next.new.self.at (set_number c.next.new.self.set)) c.in-Some.ensures
+      (said (goal.at.In-Some c).After-next)
 
-  low : B - 1 < 16
-  low = omega (arith, start.requires.le_word_size_2)
-
-  room : Room (read_items B stream) buffer
-  room = read-room B words buffer start.requires.room
-
-  total : c.stream_length-total.result ≡ length stream
-  total = c.stream_length-total.ensures.value
-
-  length-left : c.stream_length-total.result - c.loop-place.at ≡ length left
-  length-left =
-      bits_left (B - 1) words c.loop-place.at c.loop-place.place.word c.loop-place.place.bit c.loop-place.invariant.1 c.stream_length-total.result total
-
-  length-kept : length c.loop-place.message ≡ length buffer
-  length-kept =
-      filled-length (B - 1) words c.loop-place.at c.loop-place.place.word c.loop-place.place.bit c.loop-place.invariant.1 B some start.requires.le_word_size_2
-      c.loop-place.set c.loop-place.n buffer c.loop-place.message c.loop-place.invariant.0 room
-
-live : (c : In-loop-place) → stops (B (goal.at.In-loop-place c).At-loop-place) (left (goal.at.In-loop-place c).At-loop-place) ≡ false
-live c = sym c.stops_at.ensures ∙ c.loop-place-test.true
-
--- an item is found
-module _ (c : In-Whole) where
-  abbrev head : At-loop-place
-  head = (goal.at.In-Whole c).At-loop-place
-
-  abbrev item : Item
-  item = c.in-Whole.item
-
-  abbrev used : ℕ
-  used = c.in-Whole.used
-
-  here : item_at head.loop-place.set (left head) ≡ Whole item used
-  here = sym c.read_item.ensures ∙ c.in-Whole.is
-
-  bounds : (1 ≤ used) × (head.loop-place.at + (used + extra item) ≤ length (stream head)) × (head.loop-place.n + yields item ≤ length (buffer head)) × (head.loop-place.n + yields item ≤ length (stream head))
+  bounds : (1 ≤ step.1.used) × (c.loop-item.reader.at + (step.1.used + extra c.in-Some.item) ≤ length stream)
+      × (c.loop-item.length + yields c.in-Some.item ≤ length c.args.message.now)
+      × (c.loop-item.length + yields c.in-Some.item ≤ length stream)
   bounds =
-      let z = head.loop-place in
-      item-bounds (B head - 1) (words head) z.at z.place.word z.place.bit z.invariant.1 (B head) (some head) (start head).requires.le_word_size_2
-      z.set z.n (buffer head) z.message z.invariant.0 (room head) item used (live (goal.at.In-Whole c).In-loop-place) here
-
-pub loop-place-init : goal.loop-place-init
-loop-place-init c =
-    let a = c.args in
-    let h = a.word_size - 1 in
-    let read = scan-start a.word_size (omega arith) (omega arith) (unstuff_from h a.words.now) (unstuff-is-bits h a.words.now) in
-    (record { done = []; size = refl; read = read; buffer = refl }, stands-start h a.words.now, omega arith)
-
-pub overflow_sub-total : goal.overflow_sub-total
-overflow_sub-total c = omega (arith, total c, c.loop-place.invariant.1.within)
-
-pub stops_at-requires : goal.stops_at-requires
-stops_at-requires c = record {
-  h_bound_1 = low c;
-  h_bound_2 = omega arith;
-  left_value = length-left c;
-}
-
-pub overflow_sub-total-in-loop-place : goal.overflow_sub-total-in-loop-place
-overflow_sub-total-in-loop-place c = let l = (goal.at.overflow_sub-total-in-loop-place c).At-loop-place in omega (arith, total l, l.loop-place.invariant.1.within)
-
-pub read_item-requires : goal.read_item-requires
-read_item-requires c =
-    let l = (goal.at.read_item-requires c).At-loop-place in
-    record { least = some l; most = omega (arith, (start l).requires.le_word_size_2); known = l.loop-place.invariant.0.read.set; counted = length-left l }
-
-pub returns-in_default : goal.returns-in_default
-returns-in_default c =
-    let l = (goal.at.returns-in_default c).At-loop-place in
-    let z = l.loop-place in
-    absurd
-    (filled-fault (B l - 1) (words l) z.at z.place.word z.place.bit z.invariant.1 (B l) (some l) (start l).requires.le_word_size_2 z.set z.n
-    (buffer l) z.message z.invariant.0 (room l) c.read_item.result (ap (tag_of the_type) c.in_default.is)
-    (live (goal.at.returns-in_default c).In-loop-place) c.read_item.ensures)
-
-pub extra_of-more-requires : goal.extra_of-more-requires
-extra_of-more-requires c = let i = (goal.at.extra_of-more-requires c).In-Whole in omega (arith, (head i).stream_length-total.ensures, bounds i)
-
-pub forward-bytes-requires : goal.forward-bytes-requires
-forward-bytes-requires c =
-    let i = (goal.at.forward-bytes-requires c).In-Whole in record {
-      fact_1 = low (head i);
-      fact_2 = (head i).loop-place.invariant.2;
-      fact_3 = omega (arith, (head i).stream_length-total.ensures, bounds i);
-    }
+      let z = c.loop-item in
+      item-bounds B (omega arith) c.requires.le_word_size_2 stream (unstuff-is-bits (B - 1) words) z.reader.at (set_number z.reader.set) z.length
+      c.args.message.now z.message z.invariant.0 room c.in-Some.item step.1.used step.0 step.1.says
 
 pub write_item-requires : goal.write_item-requires
 write_item-requires c =
-    let i = (goal.at.write_item-requires c).In-Whole in
-    let after = ap length c.forward-bytes.ensures.bit_value in record {
-      h_bound_1 = low (head i);
-      h_bound_2 = omega (arith, total (head i), bounds i, length-left (head i), after, length-drop (used i) (left (head i)));
-      item_in_bounds = omega (arith, bounds i, length-kept (head i));
+    let i = (goal.at.write_item-requires c).In-Some in
+    let s = step i in
+    let z = c.loop-item in
+    record {
+      h_bound_1 = omega (arith, c.requires.le_word_size_2);
+      h_bound_2 = omega (
+        arith,
+        bounds i,
+        ap length s.1.follows,
+        length-drop s.1.used (drop z.reader.at (stream i)),
+        length-drop z.reader.at (stream i),
+      );
+      item_in_bounds = omega (arith, bounds i, z.auto.message);
     }
 
-pub forward-place-requires : goal.forward-place-requires
-forward-place-requires c =
-    let e = (goal.at.forward-place-requires c).After-extra_of-more in
-    let i = (goal.at.After-extra_of-more e).In-Whole in record {
-      fact_1 = low (head i);
-      fact_2 = c.forward-bytes.ensures.bit_bound;
-      fact_3 = omega (arith, (head i).stream_length-total.ensures, bounds i, e.extra_of-more.ensures);
-    }
+pub loop-item-smaller : goal.loop-item-smaller
+loop-item-smaller c =
+    let i = (goal.at.loop-item-smaller c).In-Some in
+    omega (arith, bounds i, (step i).1.passed, c.next.ensures.words.2, c.next.new.self.within)
 
-pub overflow_add-at : goal.overflow_add-at
-overflow_add-at c =
-    let e = (goal.at.overflow_add-at c).After-extra_of-more in
-    let i = (goal.at.After-extra_of-more e).In-Whole in
-    omega (arith, (head i).stream_length-total.ensures, bounds i, e.extra_of-more.ensures)
-
-pub overflow_add-at-in-loop-place : goal.overflow_add-at-in-loop-place
-overflow_add-at-in-loop-place c =
-    let e = (goal.at.overflow_add-at-in-loop-place c).After-extra_of-more in
-    let i = (goal.at.After-extra_of-more e).In-Whole in
-    omega (arith, (head i).stream_length-total.ensures, bounds i, e.extra_of-more.ensures)
-
--- at the end of a turn
-module _ (c : After-bytes_of-n) where
-  abbrev more : After-extra_of-more
-  more = (goal.at.After-bytes_of-n c).After-extra_of-more
-
-  abbrev found : In-Whole
-  found = (goal.at.After-extra_of-more more).In-Whole
-
-pub overflow_add-n : goal.overflow_add-n
-overflow_add-n c = omega (arith, (head (found c)).stream_length-total.ensures, bounds (found c), c.bytes_of-n.ensures)
-
-pub loop-place-smaller : goal.loop-place-smaller
-loop-place-smaller c = omega (arith, total (head (found c)), bounds (found c), (more c).extra_of-more.ensures)
-
-pub loop-place-preserved : goal.loop-place-preserved
-loop-place-preserved c =
-    let i = found c in
-    let l = head i in
-    let z = l.loop-place in
-    let x = (more c).extra_of-more in
-    let ahead = c.forward-bytes in
-    let last = c.forward-place in
-    let r = rest (B l - 1) (words l) ahead.result.word ahead.result.bit in
-    let whole = last.ensures.bit_value ∙ ap (drop x.result) ahead.ensures.bit_value ∙ drop-drop x.result (used i) (left l) in
+pub loop-item-preserved : goal.loop-item-preserved
+loop-item-preserved c =
+    let i = (goal.at.loop-item-preserved c).In-Some in
+    let s = step i in
+    let z = c.loop-item in
+    let r = rest (B i - 1) (words i) c.in-Some.bytes.word c.in-Some.bytes.bit in
+    let same = c.next.ensures.words in
     let full =
-    filled-item (B l - 1) (words l) z.at z.place.word z.place.bit z.invariant.1 (B l) (some l) (start l).requires.le_word_size_2 z.set z.n
-    (buffer l) z.message z.invariant.0 (room l) (item i) (used i) (live (goal.at.In-Whole i).In-loop-place) (here i) x.result
-    c.set_after-set.result c.bytes_of-n.result r (adds (item i) r) ahead.ensures.bit_value refl x.ensures c.set_after-set.ensures
-    c.bytes_of-n.ensures
+    filled-item (B i) (omega arith) c.requires.le_word_size_2 (stream i) (unstuff-is-bits (B i - 1) (words i)) z.reader.at (set_number z.reader.set)
+    z.length c.args.message.now z.message z.invariant.0 (room i) c.in-Some.item s.1.used s.0 s.1.says _ _ c.bytes_of-length.result r
+    (adds c.in-Some.item r) s.1.follows refl s.1.passed s.1.set c.bytes_of-length.ensures
     in
-    let fits : z.at + (used i + x.result) ≤ length (stream l) = omega (arith, bounds i, x.ensures) in (
-      rw c.write_item.ensures full,
-      stands-further (B l - 1) (words l) z.at z.place.word z.place.bit z.invariant.1 (used i + x.result) last.result.word
-          last.result.bit whole fits,
-      last.ensures.bit_bound,
-    )
+    (rw c.write_item.ensures full, ap (λ w. w.now) same.0 ∙ z.invariant.1, same.1 ∙ z.invariant.2)
 
 pub returns : goal.returns
 returns c =
-    let l = (goal.at.returns c).At-loop-place in
-    let z = l.loop-place in
-    let stop = sym c.stops_at.ensures ∙ c.loop-place-test.false in
-    written_all (B l) (words l) (buffer l) z.message (start l).requires.room
-    (filled-stop (B l - 1) (words l) z.at z.place.word z.place.bit z.invariant.1 (B l) (some l) (start l).requires.le_word_size_2 z.set z.n
-    (buffer l) z.message z.invariant.0 (room l) stop)
+    let a = c.args in
+    let z = c.loop-item in
+    let B = a.word_size in
+    let step = subst (λ f. Stepped B a.words.now z.reader.at (set_number z.reader.set) f c.next.new.self.at (set_number c.next.new.self.set)) c.in_default.ensures
+    (said (goal.at.returns c).After-next) in
+    written_all B a.words.now a.message.now z.message c.requires.room
+    (filled-stop B (omega arith) c.requires.le_word_size_2 (unstuff_from (B - 1) a.words.now) (unstuff-is-bits (B - 1) a.words.now) z.reader.at
+    (set_number z.reader.set) z.length a.message.now z.message z.invariant.0 (read-room B a.words.now a.message.now c.requires.room) step.0)

@@ -3,7 +3,7 @@
 use Rattle.std.proofs.Common.{◌≡◌, sym, ap, ◌∙◌, ◌++◌, ◌≤◌, arith, length, take, drop, length-drop, length-take-le}
 use Rattle.stream.specs.Bits.{bits}
 use Rattle.stream.specs.Stream.{bytes_bits}
-use Rattle.stream.specs.CodeLaws.{run-facts}
+use Rattle.stream.specs.Codes.{set_number}
 use Rattle.stream_writer.specs.Writing.{coded-then}
 use Rattle.stream_writer.proofs.Turns.{part_by, bits-count, coded-as}
 use Rattle.stream_writer.proofs.encoding.put_part.Goals as goal
@@ -30,13 +30,6 @@ few c =
 few2 : (c : After-put_code-shifted) → c.put_code-shifted.result.count ≤ 2000022
 few2 c = omega (arith, few (first c), bits-count 5 31 (start (latched (first c))).requires.fact_1.0 c.put_code-shifted.ensures)
 
-pub latch-path-requires : goal.latch-path-requires
-latch-path-requires c =
-    record {
-      fact_1 = c.requires.fact_2.0;
-      fact_2 = rw c.run_set_of.ensures (run-facts c.args.set c.requires.fact_2.0).set;
-    }
-
 pub put_code-shifted-requires : goal.put_code-shifted-requires
 put_code-shifted-requires c =
     let p = (goal.at.put_code-shifted-requires c).After-put_code-latched in
@@ -59,7 +52,7 @@ put_bytes-requires c =
     let s = start (latched (first (second p))) in
     let most = bits-count 5 s.args.count s.requires.fact_1.0 p.put_code-counted.ensures in record {
       fact_1 = (s.requires.fact_1.0, s.requires.fact_1.1, omega (arith, few2 (second p)), p.put_code-counted.ensures.state);
-      fact_2 = (s.requires.fact_2.1, s.requires.fact_2.2);
+      fact_2 = (s.requires.fact_2.0, s.requires.fact_2.1);
     }
 
 pub returns : goal.returns
@@ -74,6 +67,6 @@ returns c =
     let front = bits l.latch-path.result.bits l.latch-path.result.code in
     coded-as
     (ap (λ n. front ++ (bits 5 31 ++ (bits 5 n ++ bytes_bits bytes))) (sym size)
-    ∙ part_by a.set _ _ _ bytes l.run_set_of.ensures l.latch-path.ensures.to_value (omega arith))
+    ∙ part_by (set_number a.set) _ _ _ bytes l.run_set_of.ensures l.latch-path.ensures.to_value (omega arith))
     (coded-then (first (second p)).put_code-latched.ensures
     (coded-then (second p).put_code-shifted.ensures (coded-then p.put_code-counted.ensures r.put_bytes.ensures)))

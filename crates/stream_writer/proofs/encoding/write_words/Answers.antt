@@ -24,7 +24,7 @@ put_next-turn-requires c =
     let l = (goal.at.put_next-turn-requires c).At-loop-i in
     let w = l.loop-i.invariant.1 in record {
       fact_1 = (omega arith, omega arith, few l, w.written.state);
-      fact_2 = (w.known, omega arith);
+      fact_2 = omega arith;
     }
 
 pub loop-i-smaller : goal.loop-i-smaller

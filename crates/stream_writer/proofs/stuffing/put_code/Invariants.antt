@@ -8,6 +8,3 @@ abbrev pub invariant-loop-i : goal.invariant-loop-i
 invariant-loop-i l =
     (l.i ≤ l.width) × (l.n + l.i ≤ l.initial.n + l.width) × (length l.words ≡ length l.initial.words)
     × Sent l.h l.width l.code l.initial.n l.initial.k l.initial.v l.initial.words l.i l.n l.k l.v l.words
-
-abbrev pub decreases-loop-i : goal.decreases-loop-i
-decreases-loop-i l = l.i

@@ -2,7 +2,7 @@
 -- Assumes nothing.
 use Rattle.std.proofs.Common.{sym, ap, subst, ◌*◌, arith, length}
 use Rattle.list_laws.specs.Writes.{writes-none, writes_more, length-writes}
-use Rattle.symbol.specs.DataPlaces.{most-layers, square-most}
+use Rattle.symbol.specs.DataPlaces.{square-most}
 use Rattle.symbol.specs.declared.places.Layer.{Layer}
 use Rattle.symbol.specs.Walk.{run, Walked, Ready, walked-first, walked-last, walked_next, walked-fits}
 use Rattle.symbol.proofs.places.data_places.Goals as goal
@@ -11,29 +11,20 @@ use Rattle.symbol.proofs.places.data_places.Goals.{At-loop-layer, In-loop-layer,
 ready : (c : In-loop-layer)
     → (let l = (goal.at.In-loop-layer c).At-loop-layer in
     let s = (goal.at.At-loop-layer l).Start in
-    Ready s.args.full s.args.layers l.spread_lines-lines.result l.loop-layer.layer (length l.loop-layer.places))
+    Ready s.args.shape.full s.args.shape.layers l.spread_lines-lines.result l.loop-layer.layer (length l.loop-layer.places))
 ready c =
     let l = (goal.at.In-loop-layer c).At-loop-layer in
     let s = l in
     record {
-      shaped = s.requires.fact_1;
+      shaped = s.args.shape.shaped;
       lined = l.spread_lines-lines.ensures;
       walked = l.loop-layer.invariant.0;
       some = c.loop-layer-test.true;
-      fits = omega (arith, s.requires.fact_2, simp length-writes at (ap length l.loop-layer.invariant.1));
+      fits = omega (arith, s.requires, simp length-writes at (ap length l.loop-layer.invariant.1));
     }
 
-pub spread_lines-lines-requires : goal.spread_lines-lines-requires
-spread_lines-lines-requires c = c.requires.fact_1
-
-pub square_of-requires : goal.square_of-requires
-square_of-requires c = most-layers _ _ c.requires.fact_1
-
 pub loop-layer-init : goal.loop-layer-init
-loop-layer-init c = (walked-first _ _ _ c.square_of.ensures, writes-none _ _ _)
-
-pub layer_places-requires : goal.layer_places-requires
-layer_places-requires c = ready (goal.at.layer_places-requires c).In-loop-layer
+loop-layer-init c = (walked-first _ _ _ c.square.ensures, writes-none _ _ _)
 
 pub inward-layer-requires : goal.inward-layer-requires
 inward-layer-requires c =
@@ -42,12 +33,9 @@ inward-layer-requires c =
     let s = t in (
       t.loop-layer-test.true,
       omega (arith, w.large),
-      omega (arith, w.around, square-most _ _ s.requires.fact_1),
+      omega (arith, w.around, square-most _ _ s.args.shape.shaped),
       omega (arith, walked-fits (ready t)),
     )
-
-pub loop-layer-smaller : goal.loop-layer-smaller
-loop-layer-smaller c = omega (arith, ap (λ (x : Layer). x.left) c.inward-layer.ensures)
 
 pub loop-layer-preserved : goal.loop-layer-preserved
 loop-layer-preserved c =

@@ -8,7 +8,7 @@ use Rattle.symbol.proofs.places.data_places.Given as goal
 
 abbrev pub invariant-loop-layer : goal.invariant-loop-layer
 invariant-loop-layer l =
-    Walked l.full l.layers l.layer × (l.places ≡ writes l.initial.places (λ (i : ℕ). i) (data_place l.full l.layers) l.layer.first)
+    Walked l.shape.full l.shape.layers l.layer × (l.places ≡ writes l.initial.places (λ (i : ℕ). i) (data_place l.shape.full l.shape.layers) l.layer.first)
 
 abbrev pub decreases-loop-layer : goal.decreases-loop-layer
 decreases-loop-layer l = l.layer.left

@@ -1,6 +1,6 @@
 -- The places of the first s sides are written.
 -- Assumes nothing.
-use Rattle.std.proofs.Common.{◌≡◌, ℕ, ◌+◌, ◌*◌, ◌-◌, ◌≤◌}
+use Rattle.std.proofs.Common.{◌≡◌, ℕ, ◌+◌, ◌*◌}
 use Rattle.list_laws.specs.Writes.{writes}
 use Rattle.symbol.specs.Places.{data_place}
 use Rattle.symbol.specs.Walk.{run}
@@ -8,7 +8,4 @@ use Rattle.symbol.proofs.places.layer_places.Given as goal
 
 abbrev pub invariant-loop-s : goal.invariant-loop-s
 invariant-loop-s l =
-    (l.s ≤ 4) × (l.places ≡ writes l.initial.places (λ (m : ℕ). l.layer.first + m) (λ (m : ℕ). data_place l.full l.layers (l.layer.first + m)) (l.s * run l.layer))
-
-abbrev pub decreases-loop-s : goal.decreases-loop-s
-decreases-loop-s l = 4 - l.s
+    l.places ≡ writes l.initial.places (λ (m : ℕ). l.layer.first + m) (λ (m : ℕ). data_place l.shape.full l.shape.layers (l.layer.first + m)) (l.s * run l.layer)

@@ -1,7 +1,7 @@
 -- The first k places are written.
 -- Assumes nothing.
-use Rattle.std.proofs.Common.{◌≡◌, refl, ap, ap₂, ◌∙◌, Bool, ℕ, ◌+◌, ◌*◌, ◌-◌, ◌/◌, ◌%◌, arith, length}
-use Rattle.list_laws.specs.Writes.{writes-none, writes-step, length-writes}
+use Rattle.std.proofs.Common.{◌≡◌, refl, ap₂, ◌∙◌, Bool, ℕ, ◌+◌, ◌*◌, ◌-◌, ◌/◌, ◌%◌, arith}
+use Rattle.list_laws.specs.Writes.{writes-none, writes-step}
 use Rattle.symbol.specs.Shapes.{core, core-range}
 use Rattle.symbol.specs.Places.{turned, core_place, orientation_cell, orientation_place}
 use Rattle.symbol.proofs.places.orientation_places.Goals as goal
@@ -15,20 +15,14 @@ corner f n k e =
     e ∙ ap₂ (λ (r c : ℕ). core_place f n (turned (k / 3) (2 * core f + 1) r c)) row col
 
 pub loop-k-init : goal.loop-k-init
-loop-k-init c = (omega arith, writes-none _ _ _)
+loop-k-init c = writes-none _ _ _
 
 pub core_place-requires : goal.core_place-requires
 core_place-requires c =
-    let r = core-range c.args.full in
-    (c.requires.0, c.requires.1, omega arith, omega arith, omega arith)
-
-pub bounds-places-k : goal.bounds-places-k
-bounds-places-k c = omega (arith, simp length-writes at (ap length c.loop-k.invariant.1))
+    let r = core-range c.args.frame.full in
+    (omega arith, omega arith, omega arith)
 
 pub loop-k-preserved : goal.loop-k-preserved
 loop-k-preserved c =
     let l = c.loop-k in
-    (omega arith, writes-step _ _ _ l.k l.invariant.1 refl (corner c.args.full c.args.n l.k c.core_place.ensures))
-
-pub returns : goal.returns
-returns c = let e : c.loop-k.k ≡ 12 = omega arith in rw e at c.loop-k.invariant.1
+    writes-step _ _ _ l.k l.invariant refl (corner c.args.frame.full c.args.frame.side l.k c.core_place.ensures.place)

@@ -1,13 +1,14 @@
 -- The block that was found is the nearest, or there is none.
 -- Assumes nothing.
-use Rattle.std.proofs.Common.{◌≡◌, sym, ap, ap₂, ◌∙◌, List, ℕ, ◌-◌, ◌≤◌, le_refl, arith, length}
+use Rattle.std.proofs.Common.{◌≡◌, Err, sym, ap, ap₂, ◌∙◌, List, ℕ, ◌-◌, ◌≤◌, le_refl, arith, length}
 use Rattle.block_code.specs.Nearest as code
 use Rattle.symbol.specs.Shapes.{words}
 use Rattle.sampling.specs.Sampled.{block_words_of, block_marks_of}
 use Rattle.encoder.specs.EncodeLaws.{words-all}
-use Rattle.walk.specs.declared.Outcome.TheVariants.{Uncorrected}
+use Rattle.walk.specs.declared.Refusal.TheVariants.{Uncorrected}
 use Rattle.walk.specs.Counts.{marked_of, marked_all}
 use Rattle.walk.specs.Walk.{Walk, reading_of}
+use Rattle.walk.specs.Told.{plain_layout}
 use Rattle.walk.specs.Upright.{judged-is}
 use Rattle.walk.specs.BlockLaws.{block-found, block_none, block-left, none_left}
 use Rattle.walk.proofs.block.walk_block.Goals as goal
@@ -21,10 +22,10 @@ found c = c.correct_block.new.found
 
 -- the words of the block
 abbrev count : Start → ℕ
-count a = words a.args.layout.full a.args.layout.layers
+count a = words a.args.layout.shape.full a.args.layout.shape.layers
 
 few : (a : Start) → count a ≤ 1664
-few a = words-all a.args.layout.full a.args.layout.layers a.requires.shaped_1
+few a = words-all a.args.layout.shape.full a.args.layout.shape.layers a.args.layout.shape.shaped
 
 length_found : (c : After-correct_block) → length (found c) ≡ count (start c)
 length_found c = c.correct_block.auto.found ∙ (start c).requires.marks_len.1
@@ -34,16 +35,13 @@ erased : {e : ℕ} {marks given : List ℕ} → e ≡ marked_of (length marks) m
 erased {e} {marks} p q = p ∙ marked_all marks ∙ ap code.unread q
 
 pub judge_block-requires : goal.judge_block-requires
-judge_block-requires c =
-    let k = (goal.at.judge_block-requires c).After-correct_block in
-    let a = start k in
-    (omega (arith, length_found k, a.requires.shaped_2.2), omega (arith, length_found k, few a))
+judge_block-requires c = length_found (goal.at.judge_block-requires c).After-correct_block
 
 pub returns-then-correct_block : goal.returns-then-correct_block
 returns-then-correct_block c =
     let k = (goal.at.returns-then-correct_block c).After-correct_block in
     let a = start k in
-    let l = a.args.layout in
+    let l = plain_layout a.args.layout in
     let u = a.args.upright.now in
     let ws = block_words_of l.full l.layers u in
     let ms = block_marks_of l.full l.layers u in
@@ -61,9 +59,9 @@ count_marked-erasures-requires c =
     let n = k.correct_block.auto.marks ∙ a.requires.marks_len.0 in
     (omega (arith, n, few a), le_refl _)
 
-pub overflow_cast-result : goal.overflow_cast-result
-overflow_cast-result c =
-    let k = (goal.at.overflow_cast-result c).After-correct_block in
+pub overflow_cast-checks : goal.overflow_cast-checks
+overflow_cast-checks c =
+    let k = (goal.at.overflow_cast-checks c).After-correct_block in
     let a = start k in
     omega (arith, k.correct_block.auto.received, a.requires.received_len.0, few a)
 
@@ -71,12 +69,12 @@ pub returns : goal.returns
 returns c =
     let k = (goal.at.returns c).After-correct_block in
     let a = start k in
-    let l = a.args.layout in
+    let l = plain_layout a.args.layout in
     let u = a.args.upright.now in
     let ws = block_words_of l.full l.layers u in
     let ms = block_marks_of l.full l.layers u in
     let e = k.correct_block.ensures.corrected.no c.if-correct_block.false in record {
-      value = ap₂ Uncorrected (erased c.count_marked-erasures.ensures k.correct_block.ensures.marks_after)
+      value = ap₂ (λ e K. Err (Uncorrected e K)) (erased c.count_marked-erasures.ensures k.correct_block.ensures.marks_after)
           (ap (λ n. n - l.data_words) (k.correct_block.auto.received ∙ a.requires.received_len.0))
           ∙ sym (ap (λ (w : Walk). w.outcome) (block_none l ws ms e));
       left = none_left l ws ms k.correct_block.new.received k.correct_block.new.unread (found k) e;

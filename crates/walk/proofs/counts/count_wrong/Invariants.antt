@@ -1,12 +1,9 @@
 -- The loop has counted the words below w that were read and differ from those found.
 -- Assumes nothing.
-use Rattle.std.proofs.Common.{◌≡◌, ◌≤◌, ◌-◌}
+use Rattle.std.proofs.Common.{◌≡◌}
 use Rattle.list_laws.specs.Range.{count}
 use Rattle.walk.specs.Counts.{is_wrong}
 use Rattle.walk.proofs.counts.count_wrong.Given as goal
 
 abbrev pub invariant-loop-w : goal.invariant-loop-w
-invariant-loop-w l = (l.w ≤ l.words) × (l.wrong ≡ count l.w (is_wrong l.received l.marks l.found))
-
-abbrev pub decreases-loop-w : goal.decreases-loop-w
-decreases-loop-w l = l.words - l.w
+invariant-loop-w l = l.wrong ≡ count l.w (is_wrong l.received l.marks l.found)

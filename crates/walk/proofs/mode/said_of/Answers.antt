@@ -6,7 +6,7 @@ use Rattle.walk.proofs.mode.said_of.Goals as goal
 use Rattle.walk.proofs.mode.said_of.Goals.{After-mode_run_of-run}
 
 short : (c : After-mode_run_of-run) → c.mode_run_of-run.result ≤ 10
-short c = omega (arith, c.mode_run_of-run.ensures, run-most c.args.full)
+short c = omega (arith, c.mode_run_of-run.ensures, run-most c.args.frame.full)
 
 pub slice_bounds-mode_words-end : goal.slice_bounds-mode_words-end
 slice_bounds-mode_words-end c = short c
@@ -17,5 +17,4 @@ slice_bounds-said_in-end c = sym (length-take-le c.mode_run_of-run.result (repli
 pub said_in-requires : goal.said_in-requires
 said_in-requires c =
     let m = (goal.at.said_in-requires c).After-mode_run_of-run in
-    let a = m in
-    (a.requires.0, a.requires.1, a.requires.2, length-take-le m.mode_run_of-run.result (replicate 10 0) (short m) ∙ m.mode_run_of-run.ensures)
+    (m.requires, length-take-le m.mode_run_of-run.result (replicate 10 0) (short m) ∙ m.mode_run_of-run.ensures)
