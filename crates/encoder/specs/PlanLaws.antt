@@ -5,6 +5,8 @@ use Rattle.std.proofs.Common.{sym, ap₂, ◌∙◌, mul-le-mul, mul-le-mul_righ
 use Rattle.std.proofs.Math.Path.{ap}
 use Rattle.std.proofs.Math.Dec.{leb}
 use Rattle.std.proofs.lemmas.Bool.{lt-leb}
+use Rattle.std.proofs.Math.Option.{Option, none, some}
+use Rattle.list_laws.specs.Search.{first_from, first_found}
 use Rattle.list_laws.specs.Tests.{both-parts, holds}
 use Rattle.stream.specs.Below.{Bytes}
 use Rattle.stream.specs.Stream.{bits_of}
@@ -153,3 +155,23 @@ module _ {message : List ℕ} {i : ℕ} {f : Bool} {L w : ℕ} (t : Tried messag
       (t.count ∙ needed-is message percent f L tried-layers.1 (sym (ap (fits percent f L) t.count) ∙ e))
       ∙ ap₂ (λ f l. chosen (number_of f l) f l (length (data_words_of message l))) t.family t.shaped
       ∙ ap (λ n. chosen n (is_full (listed i)) (layers (listed i)) (length (data_words_of message (layers (listed i))))) (number-back (listed i))
+
+-- for a message of more than 4,992 bytes the search finds nothing
+module _ (message : List ℕ) (x : Bytes message) (long : 4992 < length message) (percent : ℕ) where
+  none-long : (i : ℕ) → i < 33 → fits_listed message percent i ≡ false
+  unfolding fits_listed data_words_of
+  none-long i h =
+      let L = layers (listed i) in
+      not-too-many percent (is_full (listed i)) L (length (stuff (word_size L) (bits_of message)))
+      (too_many (is_full (listed i)) L _ (layers-most (listed i) (listed-bounds i h).1)
+      (omega (arith, words-of-message (word_size L) (omega (arith, word-size-range L)) message x)))
+
+  pub long-refused : first_from (fits_listed message percent) 0 33 ≡ none
+  long-refused = go (first_from (fits_listed message percent) 0 33) refl
+    where
+      go : (o : Option ℕ) → first_from (fits_listed message percent) 0 33 ≡ o → o ≡ none
+      go none e = refl
+      go (some k) e =
+          let found = first_found (fits_listed message percent) 33 0 k e in
+          let no : false ≡ true = sym (none-long k (omega (arith, found.1))) ∙ found.0 in
+          absurd (let z : ◌≡◌ {A = ℕ} 0 1 = ap (λ (b : Bool). cond b 1 0) no in omega arith)

@@ -53,11 +53,15 @@ fn fits(percent: u32, shape: Shape, data_words: usize) -> bool
     data_words <= 64
 }
 
-// The shapes are tried in the order of the list; words are counted anew only where their size changes along it.
+// The shapes are tried in the order of the list; words are counted anew only where their size changes along it. No shape has room for more
+// than 4,992 bytes, so for a longer message none is tried.
 pub fn first_fit(message: &[u8], percent: u32) -> Result<Choice, Refusal>
     requires { percent ≤ 95 }
     ensures { encoded result ≡ spec.planned_for message.now (first_from (spec.fits_listed message.now percent) 0 33) }
 {
+    if 4992 < message.len() {
+        return Err(Refusal::TooLong);
+    }
     let mut size = 6;
     let mut words = encoding::count_words(message, size);
     for i in 0..33 {

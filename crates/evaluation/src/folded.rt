@@ -78,3 +78,19 @@ pub fn folded<const WORDS: usize>(
     a[..n].copy_from_slice(from);
     fold_by(field, folding, factors, n, &mut a, &mut b, first, out);
 }
+
+// The same where there are 256 words or more: the number of words says the factors of their order.
+pub fn folded_whole(field: &Field, from: &[u16], first: usize, out: &mut [u16])
+    requires given { steps.Given (size_of field.now.size) (length from.now) from.now }
+    requires asked { steps.Asked (size_of field.now.size) first (length out.old) out.old }
+    requires cleared { steps.Cleared (length out.old) out.old }
+    requires words { 256 ≤ 2 ^ bits (size_of field.now.size) }
+    ensures { steps.Valued (size_of field.now.size) first (steps.value_at (size_of field.now.size) (length from.now) from.now)
+        (length out.old) out.old out.new }
+{
+    match field.powers.len() {
+        4096 => folded::<4096>(field, 7, &[5, 3, 3], from, first, out),
+        1024 => folded::<1024>(field, 11, &[3], from, first, out),
+        _ => folded::<256>(field, 5, &[3], from, first, out),
+    }
+}

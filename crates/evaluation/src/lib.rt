@@ -21,14 +21,9 @@ pub fn evaluate(field: &Field, from: &[u16], first: usize, out: &mut [u16])
 {
     let words = field.powers.len();
     out.fill(0);
-    if from.len() * out.len() < 4 * words {
+    if words < 256 || from.len() * out.len() < 4 * words {
         exponents::direct(field, from, first, out);
-        return;
-    }
-    match words {
-        4096 => folded::folded::<4096>(field, 7, &[5, 3, 3], from, first, out),
-        1024 => folded::folded::<1024>(field, 11, &[3], from, first, out),
-        256 => folded::folded::<256>(field, 5, &[3], from, first, out),
-        _ => exponents::direct(field, from, first, out),
+    } else {
+        folded::folded_whole(field, from, first, out);
     }
 }

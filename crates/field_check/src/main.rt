@@ -12,9 +12,10 @@ use std::io;
 fn row(field: &Field, a: u16, sum: u64) -> u64
     requires { Word (size_of field.now.size) a }
 {
+    let words = field.powers.len() as u16;
     let mut h = sum;
-    for b in 0..field.powers.len() {
-        h = (h % 4294967296) * 31 + u64::from(field.product(a, b as u16));
+    for b in 0..words {
+        h = (h % 4294967296) * 31 + u64::from(field.product(a, b));
     }
     h
 }

@@ -43,16 +43,19 @@ impl fmt::Display for Shape {
     }
 }
 
-// Shape, position, the two counts and the length.
+// Shape, position, the two counts and the length, a write for each: an output that takes no more keeps those before.
 fn write_answer(rt: &impl Print, answer: Decoded) -> io::Result<()> {
     let shape = Shape(answer.shape);
     let position = answer.position;
     let unread = answer.unread;
     let wrong = answer.wrong;
     let length = answer.length;
-    println!(rt;
-        "{shape}, position {position}, unread words {unread}, wrong words {wrong}, bytes {length}"
-    )
+    print!(rt; "{shape}")?;
+    print!(rt; ", position {position}")?;
+    print!(rt; ", unread words {unread}")?;
+    print!(rt; ", wrong words {wrong}")?;
+    print!(rt; ", bytes {length}")?;
+    println!(rt)
 }
 
 fn write_tag(rt: &impl Print, answer: Decoded, message: &[u8]) -> io::Result<()>

@@ -10,7 +10,8 @@ use native.Mathlib.Omega.{arith}
 use lib.Dec.{eqb}
 use lib.ListN.{length, get_or}
 use Rattle.symbol.specs.GridWords.{value, unread, value-lt, value_same}
-use Rattle.symbol.specs.Tables.{part, length-part, part-at}
+use Rattle.symbol.specs.Drawing.{PlacesFit}
+use Rattle.symbol.specs.Tables.{part, length-part, part-at, fits-at, word_room}
 use Rattle.sampling.specs.Sampled.{tabled, table_module, unread-same}
 
 module _ (u : ℕ → ℕ) where
@@ -33,6 +34,11 @@ module _ (u : ℕ → ℕ) where
 
     pub value-most : {v : ℕ} → v ≡ value b u → b ≤ 12 → v ≤ 4096
     value-most e h = omega (arith, value-lt b u, pow-le-pow_right {n = 2} (omega arith) {i = b} {j = 12} h)
+
+-- the places of word w fit as the table's do
+pub word_fits : (size skip w n : ℕ) → w < n → (places : List ℕ) {room : ℕ} → PlacesFit places 0 (skip + n * size) room
+    → PlacesFit places (skip + w * size) size room
+word_fits size skip w n h places fit b k = fits-at places fit (skip + w * size + b) (omega (arith, word_room size skip w n h))
 
 -- the modules at word w's places are the word's
 module _ (size skip : ℕ) (places u : List ℕ) (w : ℕ) (room : skip + w * size + size ≤ length places) where

@@ -1,3 +1,4 @@
 pub mod CodeTables
 pub mod PartLaws
 pub mod Trips
+pub mod EntryTests

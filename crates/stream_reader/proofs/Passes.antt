@@ -6,15 +6,17 @@ use Rattle.std.proofs.Math.Bool.{and-true}
 use mathlib.Core.Path.{◌≡◌, refl, sym, ap, ◌∙◌}
 use mathlib.Core.Bool.{Bool, true, false, ◌&&◌}
 use mathlib.Core.List.{List, [], ◌∷◌}
-use Prim.Native.Nat.{ℕ, zero, suc, ◌+◌, ◌≤◌, ◌<◌}
+use Prim.Native.Nat.{ℕ, zero, suc, ◌+◌, ◌-◌, ◌≤◌, ◌<◌}
 use native.Mathlib.Omega.{arith}
-use lib.ListN.{length, get_or, drop}
+use lib.ListN.{length, get_or, drop, length-drop}
 use Rattle.list_laws.specs.Range.{all}
 use Rattle.stream.specs.declared.items.Item.{Item}
 use Rattle.stream.specs.declared.items.Fault.{Fault}
 use Rattle.stream.specs.Below.{Bits}
+use Rattle.stream.specs.Stuffing.{unstuff_from}
 use Rattle.stream.specs.Ones.{and_assoc}
 use Rattle.stream.specs.Items.{found_item, adds, yields, extra, set_after, stops, item_at, read_items, verdict_of}
+use Rattle.item_reader.specs.Places.{rest, Stands}
 use Rattle.stream_reader.specs.Scan.{Counted, counted-more, length-adds, scan-item, scan-fault, scan-stop}
 
 all-first : (n : ℕ) (p : ℕ → Bool) → p zero && all n (λ i. p (suc i)) ≡ all (suc n) p
@@ -28,6 +30,11 @@ pub all-words : (p : ℕ → Bool) (xs : List ℕ) → list_all p xs ≡ all (le
 unfolding all
 all-words p [] = refl
 all-words p (x ∷ xs) = ap (λ t. p x && t) (all-words p xs) ∙ all-first (length xs) (λ i. p (get_or (x ∷ xs) i 0))
+
+-- at bit `at`, which is bit j of word w, what is left of all bits are those of the words from there on
+pub bits_left : (h : ℕ) (words : List ℕ) (at w j : ℕ) → Stands h words at w j → (total : ℕ) → total ≡ length (unstuff_from h words)
+    → total - at ≡ length (rest h words w j)
+bits_left h words at w j s total e = omega (arith, s.within, ap length s.here, length-drop at (unstuff_from h words))
 
 module _ (B : ℕ) (some : 0 < B) (small : B ≤ 12) (l : List ℕ) (x : Bits l) (at s n : ℕ) (k : Counted B l at s n) where
   -- an item more

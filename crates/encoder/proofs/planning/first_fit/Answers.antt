@@ -6,9 +6,14 @@ use Rattle.stream.specs.Below.{Bytes, below_of}
 use Rattle.stream_writer.specs.Encoding.{words_needed}
 use Rattle.symbol.specs.Shapes.{word_size, word-size-range}
 use Rattle.encoder.specs.Plan.{fits, fits_listed, planned_for}
-use Rattle.encoder.specs.PlanLaws.{fit_words, Tried, tried-fits, tried-answer}
+use Rattle.encoder.specs.PlanLaws.{fit_words, Tried, tried-fits, tried-answer, long-refused}
 use Rattle.encoder.proofs.planning.first_fit.Goals as goal
 use Rattle.encoder.proofs.planning.first_fit.Goals.{then-word_size-size, else-word_size-size, Joined-word_size-size, Then-fits}
+
+pub returns-then-message-gt4992 : goal.returns-then-message-gt4992
+returns-then-message-gt4992 c =
+    let bytes = below_of 256 c.args.message.now (λ i h. omega (arith, c.type_inv.message i)) in
+    ap (planned_for c.args.message.now) (sym (long-refused c.args.message.now bytes (omega arith) c.args.percent))
 
 pub count_words-words-requires-then-word_size-size : goal.count_words-words-requires-then-word_size-size
 count_words-words-requires-then-word_size-size c =
