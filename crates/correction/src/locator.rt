@@ -17,6 +17,7 @@ fn dot(field: &Field, p: &[u16], u: &[u16], at: usize, count: usize) -> u16
     ensures { result ≡ number (size_of field.now.size)
         (key.dot (word_field (size_of field.now.size)) count (entry (size_of field.now.size) p.now) (entry (size_of field.now.size) u.now) at) }
 {
+    let field = *field;
     let mut sum: u16 = 0;
     for j in 0..count {
         sum ^= field.product(p[j], u[at + j]);

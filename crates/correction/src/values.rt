@@ -82,6 +82,7 @@ fn correction(field: &Field, g: &[u16], m: usize, syndromes: &[u16], k: usize) -
         (exactness.correction (word_field (size_of field.now.size)) m (entry (size_of field.now.size) g.now)
         (entry (size_of field.now.size) syndromes.now) (pow (word_field (size_of field.now.size)) (x (size_of field.now.size)) k)) }
 {
+    let field = *field;
     let mut quotient: u16 = 0;
     let mut numerator: u16 = 0;
     let mut slope: u16 = 0;
