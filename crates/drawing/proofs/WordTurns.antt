@@ -8,9 +8,9 @@ use lib.ListN.{length, get_or, take}
 use Rattle.std.proofs.lemmas.List.{length-take, get_or-take}
 use borrow.Author.Tests.{lt-ltb}
 use Rattle.list_laws.specs.Writes.{writes, writes-none, writes-join, writes-cong}
-use Rattle.symbol.specs.Drawing.{PlacesFit, bit_of, words_bit}
+use Rattle.symbol.specs.Drawing.{bit_of, words_bit}
 use Rattle.symbol.specs.GridWords.{word-bit}
-use Rattle.symbol.specs.Tables.{part, length-part, part-at, fits-at, word_room}
+use Rattle.symbol.specs.Tables.{part, length-part, part-at, word_room}
 
 -- the skipped places are the table's first
 pub zeros-drawn : (places : List ℕ) (skip : ℕ) → skip ≤ length places → (l : List ℕ) {g : List ℕ}
@@ -62,8 +62,3 @@ module _ (size skip : ℕ) (places words : List ℕ) where
       ∙ ap (λ x. words_drawn x (w * size)) (e ∙ writes-cong l _ _ _ _ skip (λ i k. refl) skipped-bit)
       ∙ writes-join l (λ i. get_or places i 0) (words_bit size skip words) skip (w * size)
       ∙ ap (λ n. writes l (λ i. get_or places i 0) (words_bit size skip words) (skip + n * size)) all
-
-  -- the places of word w fit as the table's do
-  pub word_fits : (w : ℕ) {room : ℕ} → w < length words → PlacesFit places 0 (skip + length words * size) room
-      → PlacesFit places (skip + w * size) size room
-  word_fits w h fit b k = fits-at places fit (skip + w * size + b) (omega (arith, word_room size skip w (length words) h))

@@ -45,7 +45,13 @@ module _ (percent : ℕ) (f : Bool) (L D : ℕ) {n : ℕ} (e : n ≡ words f L) 
 not-too-many : (percent : ℕ) (f : Bool) (L D : ℕ) → words f L < D → fits percent f L D ≡ false
 not-too-many percent f L D h = sym (too_few percent f L D refl (omega arith))
 
--- a message of more than 4,992 bytes fits no shape, and neither do the 4,993 words that stand for it
+-- a message of more than 4,992 bytes takes more words than any shape has
+long-words : (message : List ℕ) → Bytes message → 4992 < length message → (f : Bool) (L : ℕ) → L ≤ 32
+    → words f L < length (stuff (word_size L) (bits_of message))
+long-words message x long f L h =
+    too_many f L _ h (omega (arith, words-of-message (word_size L) (omega (arith, word-size-range L)) message x))
+
+-- so it fits none, and neither do the 4,993 words that stand for it
 pub needed-fits : (message : List ℕ) → Bytes message → (percent : ℕ) (f : Bool) (L : ℕ) → L ≤ 32
     → fits percent f L (words_needed (word_size L) message) ≡ fits percent f L (length (data_words_of message L))
 unfolding words_needed data_words_of
@@ -58,8 +64,7 @@ needed-fits message x percent f L h = go (leb (length message) 4992) refl
     go false e =
         let long = leb-false (length message) 4992 e in
         not-too-many percent f L 4993 (too_many f L 4993 h (omega (arith, word-size-range L)))
-        ∙ sym (not-too-many percent f L (length (stuff (word_size L) (bits_of message))) (too_many f L _ h
-        (omega (arith, words-of-message (word_size L) (omega (arith, word-size-range L)) message x))))
+        ∙ sym (not-too-many percent f L (length (stuff (word_size L) (bits_of message))) (long-words message x long f L h))
 
 pub fit_words : (percent : ℕ) (f : Bool) (L D : ℕ) → fits percent f L D ≡ true → D ≤ words f L
 unfolding fits
@@ -156,15 +161,14 @@ module _ {message : List ℕ} {i : ℕ} {f : Bool} {L w : ℕ} (t : Tried messag
       ∙ ap₂ (λ f l. chosen (number_of f l) f l (length (data_words_of message l))) t.family t.shaped
       ∙ ap (λ n. chosen n (is_full (listed i)) (layers (listed i)) (length (data_words_of message (layers (listed i))))) (number-back (listed i))
 
--- for a message of more than 4,992 bytes the search finds nothing
+-- for such a message the search finds nothing
 module _ (message : List ℕ) (x : Bytes message) (long : 4992 < length message) (percent : ℕ) where
   none-long : (i : ℕ) → i < 33 → fits_listed message percent i ≡ false
   unfolding fits_listed data_words_of
   none-long i h =
       let L = layers (listed i) in
       not-too-many percent (is_full (listed i)) L (length (stuff (word_size L) (bits_of message)))
-      (too_many (is_full (listed i)) L _ (layers-most (listed i) (listed-bounds i h).1)
-      (omega (arith, words-of-message (word_size L) (omega (arith, word-size-range L)) message x)))
+      (long-words message x long (is_full (listed i)) L (layers-most (listed i) (listed-bounds i h).1))
 
   pub long-refused : first_from (fits_listed message percent) 0 33 ≡ none
   long-refused = go (first_from (fits_listed message percent) 0 33) refl
@@ -173,5 +177,4 @@ module _ (message : List ℕ) (x : Bytes message) (long : 4992 < length message)
       go none e = refl
       go (some k) e =
           let found = first_found (fits_listed message percent) 33 0 k e in
-          let no : false ≡ true = sym (none-long k (omega (arith, found.1))) ∙ found.0 in
-          absurd (let z : ◌≡◌ {A = ℕ} 0 1 = ap (λ (b : Bool). cond b 1 0) no in omega arith)
+          let no : false ≡ true = sym (none-long k (omega (arith, found.1))) ∙ found.0 in cc
